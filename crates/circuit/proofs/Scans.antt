@@ -1,0 +1,60 @@
+-- Steps of the loops that go over the wires in rising order: the lowest fault, and the wires that a test picks.
+use Prim.Native.Nat.{ℕ, zero, suc, _+_, _-_, _≤_, _<_}
+use mathlib.Core.Bool.{Bool, true, false, cond}
+use mathlib.Core.List.{List, [], _∷_, _++_}
+use mathlib.Core.Path.{_≡_, refl, sym, ap, subst, _∙_}
+use native.Mathlib.Nat.{add-zero, add-suc}
+use native.Mathlib.Numerals.{add-one}
+use native.Mathlib.Omega.{arith}
+use lib.ListN.{length, length-append}
+use Rattle.std.specs.declared.option.Option.{Option}
+use Rattle.std.specs.declared.option.Option.the-variants.{Some, None}
+use Rattle.circuit.specs.declared.wires.Class.{Class}
+use Rattle.circuit.specs.Wires.{Wiring, wiresWhere}
+use Rattle.circuit.specs.Check.{Fault, orElse, wireFault, lowestFault}
+
+-- One wire more is looked at.
+pub lowest-more : (rule : Class → ℕ → Bool) (c : Wiring) (w : ℕ)
+    → lowestFault rule c (w + 1) ≡ orElse (lowestFault rule c w) (wireFault rule c w)
+unfolding lowestFault
+lowest-more rule c w = rw add-one
+
+-- Where no lower wire is faulty, this wire's fault is the lowest.
+pub lowest-here : (rule : Class → ℕ → Bool) (c : Wiring) (w : ℕ) (r : Option Fault)
+    → lowestFault rule c w ≡ None → wireFault rule c w ≡ r → lowestFault rule c (w + 1) ≡ r
+lowest-here rule c w r none here = lowest-more rule c w ∙ ap (λ f. orElse f (wireFault rule c w)) none ∙ here
+
+-- A fault that is found is the lowest, however many wires follow.
+pub lowest-stays : (rule : Class → ℕ → Bool) (c : Wiring) (w k : ℕ) (f : Fault)
+    → lowestFault rule c w ≡ Some f → lowestFault rule c (w + k) ≡ Some f
+unfolding lowestFault
+lowest-stays rule c w zero f found = rw add-zero found
+lowest-stays rule c w (suc k) f found =
+    rw add-suc (ap (λ g. orElse g (wireFault rule c (w + k))) (lowest-stays rule c w k f found))
+
+-- So the fault of the first faulty wire is that of them all.
+pub lowest-found : (rule : Class → ℕ → Bool) (c : Wiring) (w n : ℕ) (f : Fault)
+    → w < n → lowestFault rule c w ≡ None → wireFault rule c w ≡ Some f → lowestFault rule c n ≡ Some f
+lowest-found rule c w n f below none here =
+    let whole : (w + 1) + (n - (w + 1)) ≡ n = omega arith in
+    subst (λ k. lowestFault rule c k ≡ Some f) whole
+    (lowest-stays rule c (w + 1) (n - (w + 1)) f (lowest-here rule c w (Some f) none here))
+
+length-one-or-none : (b : Bool) (w : ℕ) → length (cond b (w ∷ []) []) ≡ cond b 1 0
+length-one-or-none true w = refl
+length-one-or-none false w = refl
+
+-- One wire more is counted.
+pub count-more : (p : ℕ → Bool) (w : ℕ) → length (wiresWhere p (w + 1)) ≡ length (wiresWhere p w) + cond (p w) 1 0
+unfolding wiresWhere
+count-more p w = rw (add-one, length-append) (ap (λ n. length (wiresWhere p w) + n) (length-one-or-none (p w) w))
+
+-- A loop's count stays that of the wires picked so far.
+pub count-step : (p : ℕ → Bool) (w n k : ℕ) → (n ≡ length (wiresWhere p w)) × (n ≤ w) → k ≡ n + cond (p w) 1 0
+    → (k ≡ length (wiresWhere p (w + 1))) × (k ≤ w + 1)
+count-step p w n k (counted, below) step =
+    (step ∙ ap (λ i. i + cond (p w) 1 0) counted ∙ sym (count-more p w), omega (arith, step, at-most-one (p w)))
+  where
+    at-most-one : (b : Bool) → cond b 1 0 ≤ 1
+    at-most-one true = omega arith
+    at-most-one false = omega arith

@@ -1,0 +1,4 @@
+pub mod Wires
+pub mod Read
+pub mod Check
+pub mod Accepted
