@@ -102,8 +102,8 @@ wires-sound rule c zero none w below = absurd (omega arith)
 wires-sound rule c (suc n) none w below =
     let parts = or-else-none _ _ none in
     elim (cases-lt w n) [
-      inl lower ↦ wires-sound rule c n (parts .0) w lower
-    | inr here ↦ let same : n ≡ w = omega arith in subst (λ k. wireFault rule c k ≡ None) same (parts .1)
+      | inl lower ↦ wires-sound rule c n (parts .0) w lower
+      | inr here ↦ let same : n ≡ w = omega arith in subst (λ k. wireFault rule c k ≡ None) same (parts .1)
     ]
 
 sound-wires : (rule : Class → ℕ → Bool) (c : Wiring) (n : ℕ) → ((w : ℕ) → w < n → wireFault rule c w ≡ None) → lowestFault rule c n ≡ None
@@ -124,8 +124,8 @@ lowest-sound rule c n none = record {
 pub sound-lowest : (rule : Class → ℕ → Bool) (c : Wiring) (n : ℕ) → WiresSound rule c n → lowestFault rule c n ≡ None
 sound-lowest rule c n h = sound-wires rule c n (λ w below.
     elim (cases-lt w (c .inputs)) [
-      inl input ↦ cond-true _ _ _ (lt-ltb w (c .inputs) input) ∙ sound-input c w (h .inputs w below input)
-    | inr gate ↦ cond-false _ _ _ (le-ltb w (c .inputs) gate) ∙ sound-gate rule c w (h .gates w below gate)
+      | inl input ↦ cond-true _ _ _ (lt-ltb w (c .inputs) input) ∙ sound-input c w (h .inputs w below input)
+      | inr gate ↦ cond-false _ _ _ (le-ltb w (c .inputs) gate) ∙ sound-gate rule c w (h .gates w below gate)
     ])
 
 -- The whole table.

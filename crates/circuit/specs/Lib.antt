@@ -2,3 +2,5 @@ pub mod Wires
 pub mod Read
 pub mod Check
 pub mod Accepted
+pub mod Plain
+pub mod Public

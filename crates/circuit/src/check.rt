@@ -18,7 +18,9 @@ use refusal::Refusal;
 
 // The most wires, input wires and outputs that a table may have.
 pub const MOST_WIRES: u16 = 1536;
+
 pub const MOST_INPUTS: u16 = 512;
+
 pub const MOST_OUTPUTS: u16 = 256;
 
 // The number of sides that take part.
@@ -85,11 +87,15 @@ impl Circuit<'_> {
         ensures { λ r. ⌜ Cases r (λ _. inputFault (wiringOf (now (self .entry))) wire ≡ None) (λ e. inputFault (wiringOf (now (self .entry))) wire ≡ Some (told e)) ⌝ }
     {
         if self.side(wire) >= SIDES {
-            return Err(Refusal::Kind { wire: u32::from(wire) });
+            return Err(Refusal::Kind {
+                wire: u32::from(wire),
+            });
         }
         let (first, second) = self.pair(wire);
         if first != 0 || second != 0 {
-            return Err(Refusal::Pair { wire: u32::from(wire) });
+            return Err(Refusal::Pair {
+                wire: u32::from(wire),
+            });
         }
         Ok(())
     }
@@ -99,14 +105,20 @@ impl Circuit<'_> {
         ensures { λ r. ⌜ Cases r (λ _. gateFault (ruleOf rule) (wiringOf (now (self .entry))) wire ≡ None) (λ e. gateFault (ruleOf rule) (wiringOf (now (self .entry))) wire ≡ Some (told e)) ⌝ }
     {
         if self.kind(wire) / 64 % 2 == 1 {
-            return Err(Refusal::Kind { wire: u32::from(wire) });
+            return Err(Refusal::Kind {
+                wire: u32::from(wire),
+            });
         }
         let (first, second) = self.pair(wire);
         if first >= wire || second >= wire {
-            return Err(Refusal::Pair { wire: u32::from(wire) });
+            return Err(Refusal::Pair {
+                wire: u32::from(wire),
+            });
         }
         if !rule.allows(self.class(wire), self.truth_table(wire)) {
-            return Err(Refusal::TruthTable { wire: u32::from(wire) });
+            return Err(Refusal::TruthTable {
+                wire: u32::from(wire),
+            });
         }
         Ok(())
     }
@@ -114,7 +126,11 @@ impl Circuit<'_> {
     fn check_wire(&self, wire: u16, rule: TruthRule) -> Result<(), Refusal>
         ensures { λ r. ⌜ Cases r (λ _. wireFault (ruleOf rule) (wiringOf (now (self .entry))) wire ≡ None) (λ e. wireFault (ruleOf rule) (wiringOf (now (self .entry))) wire ≡ Some (told e)) ⌝ }
     {
-        if self.is_input(wire) { self.check_input(wire) } else { self.check_gate(wire, rule) }
+        if self.is_input(wire) {
+            self.check_input(wire)
+        } else {
+            self.check_gate(wire, rule)
+        }
     }
 
     // Every wire is sound, or the fault of the lowest faulty one.
@@ -180,7 +196,11 @@ impl<'a> Table<'a> {
         let outputs = circuit.count_outputs();
         check_outputs(outputs)?;
         let garbled = circuit.count_garbled();
-        Ok(Table { circuit, garbled, outputs })
+        Ok(Table {
+            circuit,
+            garbled,
+            outputs,
+        })
     }
 
     // The wires.

@@ -1,6 +1,8 @@
 // Boolean circuits as tables of bytes: read, checked, run in the clear, and stripped to their public part.
 
 mod check;
+mod plain;
+mod publish;
 mod wires;
 
 pub use check::MOST_INPUTS;

@@ -56,11 +56,11 @@ pub struct Circuit<'a> {
     pub arrays: &'a [u8],
 }
 
-// The byte at a place, 0 past the end.
-fn byte(bytes: &[u8], at: usize) -> u8
-    ensures { λ r. ⌜ r ≡ getD (now (bytes .entry)) at 0 ⌝ }
+// What stands at a place, or the default past the end.
+pub fn item_or<T: Copy>(items: &[T], at: usize, default: T) -> T
+    ensures { λ r. ⌜ r ≡ getD (now (items .entry)) at default ⌝ }
 {
-    if at < bytes.len() { bytes[at] } else { 0 }
+    if at < items.len() { items[at] } else { default }
 }
 
 // The number of 16 bits at a place, its low byte first.
@@ -68,7 +68,7 @@ fn short_at(bytes: &[u8], at: usize) -> u16
     requires { ⌜ at < 2 ^ 32 ⌝ }
     ensures { λ r. ⌜ r ≡ short (now (bytes .entry)) at ⌝ }
 {
-    u16::from(byte(bytes, at)) + 256 * u16::from(byte(bytes, at + 1))
+    u16::from(item_or(bytes, at, 0)) + 256 * u16::from(item_or(bytes, at + 1, 0))
 }
 
 impl Circuit<'_> {
@@ -76,7 +76,7 @@ impl Circuit<'_> {
     pub fn kind(&self, wire: u16) -> u8
         ensures { λ r. ⌜ r ≡ kindAt (wiringOf (now (self .entry))) wire ⌝ }
     {
-        byte(self.arrays, usize::from(wire))
+        item_or(self.arrays, usize::from(wire), 0)
     }
 
     // Whether a wire is an input; the others are gates.
