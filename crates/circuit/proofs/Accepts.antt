@@ -16,8 +16,8 @@ use Rattle.refusal.specs.declared.Refusal.{Refusal}
 use Rattle.std.specs.declared.option.Option.{Option}
 use Rattle.std.specs.declared.option.Option.the-variants.{Some, None}
 use Rattle.std.proofs.shelf.Tests.{false≢true, and-parts, and-from, ltb-true, lt-ltb, le-ltb, leb-true, le-leb, eqb-true, eq-eqb, not-true, not-from-false, cases-lt, cond-true, cond-false}
-use Rattle.circuit.specs.declared.wires.Class.{Class}
-use Rattle.circuit.specs.Wires.{Wiring, bit, kindAt, firstAt, secondAt, sideAt, truthAt, classAt, isInput, allowed, outputWires}
+use Rattle.wires.specs.declared.Class.{Class}
+use Rattle.wires.specs.Wires.{Wiring, bit, kindAt, firstAt, secondAt, sideAt, truthAt, classAt, isInput, allowed, outputWires}
 use Rattle.circuit.specs.Check.{Fault, unless, orElse, sides, most-wires, most-inputs, most-outputs, sizesFault, inputFault, gateFault, wireFault, lowestFault, outputsFault, tableWiring, tableFault}
 use Rattle.circuit.specs.Accepted.{InputSound, GateSound, SizesSound, WiresSound, Accepted}
 

@@ -11,7 +11,7 @@ use lib.ListN.{length, getD, take, set}
 use Rattle.std.proofs.shelf.Lists.{length-push, getD-append-left, getD-push, take-all, take-more-set}
 use Rattle.std.specs.declared.option.Option.the-variants.{None}
 use Rattle.std.proofs.shelf.Tests.{eq-eqb, cases-lt, lt-ltb, le-ltb, cond-true, cond-false}
-use Rattle.circuit.specs.Wires.{Wiring, truth, truthAt, firstAt, secondAt, isInput, outputWires}
+use Rattle.wires.specs.Wires.{Wiring, truth, truthAt, firstAt, secondAt, isInput, outputWires}
 use Rattle.circuit.specs.Plain.{valueFrom, valuesBelow, valuesOf, atOutputs, plainFault, PlainRun}
 
 -- One wire more has its value.

@@ -12,7 +12,7 @@ use Rattle.std.specs.Iters.{counting}
 use Rattle.std.proofs.shelf.Counted.{getD-map-counting}
 use Rattle.std.proofs.shelf.Lists.{append-nil, drop-all}
 use Rattle.std.proofs.shelf.Tests.{cases-lt, lt-ltb, le-ltb, cond-true, cond-false}
-use Rattle.circuit.specs.Wires.{Wiring, short, bit, kindAt, firstAt, secondAt, sideAt, classOf, classAt, truthAt, isInput, isOutput}
+use Rattle.wires.specs.Wires.{Wiring, short, bit, kindAt, firstAt, secondAt, sideAt, classOf, classAt, truthAt, isInput, isOutput}
 use Rattle.circuit.specs.Check.{tableWiring}
 use Rattle.circuit.specs.Public.{publicKind, publicByte, publicArrays, publicTable, PublicOf}
 use Rattle.circuit.proofs.Tables.{same-wiring}

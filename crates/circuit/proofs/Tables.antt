@@ -9,7 +9,7 @@ use lib.Dec.{eqb, leb}
 use lib.ListN.{length}
 use Rattle.std.specs.declared.option.Option.{Option}
 use Rattle.std.specs.declared.option.Option.the-variants.{Some, None}
-use Rattle.circuit.specs.Wires.{Wiring, allowed, outputWires}
+use Rattle.wires.specs.Wires.{Wiring, allowed, outputWires}
 use Rattle.circuit.specs.Check.{Fault, unless, orElse, sizesFault, lowestFault, outputsFault, tableWiring, tableFault}
 
 -- Two wirings are equal part by part.

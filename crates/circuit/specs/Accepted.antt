@@ -5,8 +5,8 @@ use mathlib.Core.List.{List}
 use mathlib.Core.Path.{_≡_}
 use lib.ListN.{length}
 use Rattle.std.specs.declared.option.Option.the-variants.{Some, None}
-use Rattle.circuit.specs.declared.wires.Class.{Class}
-use Rattle.circuit.specs.Wires.{Wiring, bit, kindAt, firstAt, secondAt, sideAt, truthAt, classAt, allowed, outputWires}
+use Rattle.wires.specs.declared.Class.{Class}
+use Rattle.wires.specs.Wires.{Wiring, bit, kindAt, firstAt, secondAt, sideAt, truthAt, classAt, allowed, outputWires}
 use Rattle.circuit.specs.Check.{most-wires, most-inputs, most-outputs, sides, tableWiring}
 
 -- An input has a side, no other bits but bit 7, and the pair 0, 0.

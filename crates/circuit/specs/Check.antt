@@ -7,8 +7,8 @@ use lib.Dec.{eqb, leb, ltb}
 use lib.ListN.{length, drop}
 use Rattle.std.specs.declared.option.Option.{Option}
 use Rattle.std.specs.declared.option.Option.the-variants.{Some, None}
-use Rattle.circuit.specs.declared.wires.Class.{Class}
-use Rattle.circuit.specs.Wires.{short, bit, Wiring, kindAt, firstAt, secondAt, sideAt, truthAt, classAt, isInput, isOutput, allowed, outputWires}
+use Rattle.wires.specs.declared.Class.{Class}
+use Rattle.wires.specs.Wires.{short, bit, Wiring, kindAt, firstAt, secondAt, sideAt, truthAt, classAt, isInput, isOutput, allowed, outputWires}
 
 -- The limits.
 abbrev pub most-wires : ℕ

@@ -1,4 +1,3 @@
-pub mod Wires
 pub mod Read
 pub mod Check
 pub mod Accepted

@@ -7,7 +7,7 @@ use lib.Dec.{eqb}
 use lib.ListN.{getD, length}
 use Rattle.std.specs.declared.option.Option.{Option}
 use Rattle.std.specs.declared.option.Option.the-variants.{None}
-use Rattle.circuit.specs.Wires.{Wiring, truth, truthAt, firstAt, secondAt, isInput, outputWires}
+use Rattle.wires.specs.Wires.{Wiring, truth, truthAt, firstAt, secondAt, isInput, outputWires}
 use Rattle.circuit.specs.Check.{Fault, unless}
 
 -- The value of wire w, from the input bits x and the values of the wires below: an input's is the given bit, a gate's what its truth table gives at its pair's.

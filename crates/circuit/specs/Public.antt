@@ -8,7 +8,7 @@ use lib.ListN.{getD}
 use Rattle.std.specs.Iters.{counting}
 use Rattle.std.specs.declared.option.Option.{Option}
 use Rattle.std.specs.declared.option.Option.the-variants.{None}
-use Rattle.circuit.specs.Wires.{Wiring, kindAt, firstAt, secondAt, sideAt, truthAt, classAt, isInput, isOutput}
+use Rattle.wires.specs.Wires.{Wiring, kindAt, firstAt, secondAt, sideAt, truthAt, classAt, isInput, isOutput}
 use Rattle.circuit.specs.Check.{Fault, unless}
 
 -- A gate's kind with bits 0 to 3 zero; an input's as it is.

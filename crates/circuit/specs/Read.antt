@@ -3,19 +3,15 @@ use Prim.Native.Nat.{ℕ}
 use mathlib.Core.Bool.{Bool}
 use mathlib.Core.List.{List}
 use mathlib.Core.Path.{_≡_}
-use denote.Ref.{now}
 use lib.Dec.{eqb}
 use lib.ListN.{length}
-use Rattle.circuit.specs.declared.wires.Class.{Class}
-use Rattle.circuit.specs.declared.wires.Circuit.{Circuit}
+use Rattle.wires.specs.declared.Class.{Class}
 use Rattle.circuit.specs.declared.check.TruthRule.{TruthRule}
 use Rattle.circuit.specs.declared.check.TruthRule.the-variants.{ByClass, Blank}
 use Rattle.circuit.specs.declared.check.Table.{Table}
-use Rattle.circuit.specs.Wires.{Wiring, allowed, garbledWires, outputWires}
+use Rattle.wires.specs.Read.{wiringOf}
+use Rattle.wires.specs.Wires.{allowed, garbledWires, outputWires}
 use Rattle.circuit.specs.Check.{tableWiring}
-
-abbrev pub wiringOf : Circuit → Wiring
-wiringOf c = record { wires = c .wires; inputs = c .inputs; arrays = now (c .arrays) }
 
 abbrev pub ruleOf : TruthRule → Class → ℕ → Bool
 ruleOf ByClass k t = allowed k t

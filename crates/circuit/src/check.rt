@@ -7,14 +7,14 @@ ghost use Rattle.std.specs.Orderings.{Decides};
 ghost use Rattle.std.specs.Results.{Cases, isOk};
 ghost use Rattle.std.specs.declared.option.Option.the-variants.{Some, None};
 ghost use Rattle.refusal.specs.Told.{told};
-ghost use Rattle.circuit.specs.Wires.{garbledWires, outputWires, wiresWhere, isOutput, isGarbled};
+ghost use Rattle.wires.specs.Wires.{garbledWires, outputWires};
 ghost use Rattle.circuit.specs.Check.{sizesFault, outputsFault, inputFault, gateFault, wireFault, lowestFault, tableFault, tableWiring};
 ghost use Rattle.circuit.specs.Accepted.{Accepted};
-ghost use Rattle.circuit.specs.Read.{wiringOf, ruleOf, Holds};
-use crate::wires::Circuit;
-use crate::wires::Class;
-use crate::wires::ClassPartialEq;
+ghost use Rattle.circuit.specs.Read.{ruleOf, Holds};
+ghost use Rattle.wires.specs.Read.{wiringOf};
 use refusal::Refusal;
+use wires::Circuit;
+use wires::Class;
 
 // The most wires, input wires and outputs that a table may have.
 pub const MOST_WIRES: u16 = 1536;
@@ -81,89 +81,66 @@ pub fn check_sizes(wires: u16, inputs: u16) -> Result<(), Refusal>
     Ok(())
 }
 
-impl Circuit<'_> {
-    // An input has a side and no pair.
-    fn check_input(&self, wire: u16) -> Result<(), Refusal>
-        ensures { λ r. ⌜ Cases r (λ _. inputFault (wiringOf (now (self .entry))) wire ≡ None) (λ e. inputFault (wiringOf (now (self .entry))) wire ≡ Some (told e)) ⌝ }
-    {
-        if self.side(wire) >= SIDES {
-            return Err(Refusal::Kind {
-                wire: u32::from(wire),
-            });
-        }
-        let (first, second) = self.pair(wire);
-        if first != 0 || second != 0 {
-            return Err(Refusal::Pair {
-                wire: u32::from(wire),
-            });
-        }
-        Ok(())
+// An input has a side and no pair.
+fn check_input(circuit: &Circuit, wire: u16) -> Result<(), Refusal>
+    ensures { λ r. ⌜ Cases r (λ _. inputFault (wiringOf (now (circuit .entry))) wire ≡ None) (λ e. inputFault (wiringOf (now (circuit .entry))) wire ≡ Some (told e)) ⌝ }
+{
+    if circuit.side(wire) >= SIDES {
+        return Err(Refusal::Kind {
+            wire: u32::from(wire),
+        });
     }
+    let (first, second) = circuit.pair(wire);
+    if first != 0 || second != 0 {
+        return Err(Refusal::Pair {
+            wire: u32::from(wire),
+        });
+    }
+    Ok(())
+}
 
-    // A gate reads lower wires and has a truth table that the rule allows to its class.
-    fn check_gate(&self, wire: u16, rule: TruthRule) -> Result<(), Refusal>
-        ensures { λ r. ⌜ Cases r (λ _. gateFault (ruleOf rule) (wiringOf (now (self .entry))) wire ≡ None) (λ e. gateFault (ruleOf rule) (wiringOf (now (self .entry))) wire ≡ Some (told e)) ⌝ }
-    {
-        if self.kind(wire) / 64 % 2 == 1 {
-            return Err(Refusal::Kind {
-                wire: u32::from(wire),
-            });
-        }
-        let (first, second) = self.pair(wire);
-        if first >= wire || second >= wire {
-            return Err(Refusal::Pair {
-                wire: u32::from(wire),
-            });
-        }
-        if !rule.allows(self.class(wire), self.truth_table(wire)) {
-            return Err(Refusal::TruthTable {
-                wire: u32::from(wire),
-            });
-        }
-        Ok(())
+// A gate reads lower wires and has a truth table that the rule allows to its class.
+fn check_gate(circuit: &Circuit, wire: u16, rule: TruthRule) -> Result<(), Refusal>
+    ensures { λ r. ⌜ Cases r (λ _. gateFault (ruleOf rule) (wiringOf (now (circuit .entry))) wire ≡ None) (λ e. gateFault (ruleOf rule) (wiringOf (now (circuit .entry))) wire ≡ Some (told e)) ⌝ }
+{
+    if circuit.kind(wire) / 64 % 2 == 1 {
+        return Err(Refusal::Kind {
+            wire: u32::from(wire),
+        });
     }
+    let (first, second) = circuit.pair(wire);
+    if first >= wire || second >= wire {
+        return Err(Refusal::Pair {
+            wire: u32::from(wire),
+        });
+    }
+    if !rule.allows(circuit.class(wire), circuit.truth_table(wire)) {
+        return Err(Refusal::TruthTable {
+            wire: u32::from(wire),
+        });
+    }
+    Ok(())
+}
 
-    fn check_wire(&self, wire: u16, rule: TruthRule) -> Result<(), Refusal>
-        ensures { λ r. ⌜ Cases r (λ _. wireFault (ruleOf rule) (wiringOf (now (self .entry))) wire ≡ None) (λ e. wireFault (ruleOf rule) (wiringOf (now (self .entry))) wire ≡ Some (told e)) ⌝ }
-    {
-        if self.is_input(wire) {
-            self.check_input(wire)
-        } else {
-            self.check_gate(wire, rule)
-        }
+// The fault of one wire.
+fn check_wire(circuit: &Circuit, wire: u16, rule: TruthRule) -> Result<(), Refusal>
+    ensures { λ r. ⌜ Cases r (λ _. wireFault (ruleOf rule) (wiringOf (now (circuit .entry))) wire ≡ None) (λ e. wireFault (ruleOf rule) (wiringOf (now (circuit .entry))) wire ≡ Some (told e)) ⌝ }
+{
+    if circuit.is_input(wire) {
+        check_input(circuit, wire)
+    } else {
+        check_gate(circuit, wire, rule)
     }
+}
 
-    // Every wire is sound, or the fault of the lowest faulty one.
-    pub fn check_wires(&self, rule: TruthRule) -> Result<(), Refusal>
-        ensures { λ r. ⌜ Cases r (λ _. lowestFault (ruleOf rule) (wiringOf (now (self .entry))) (now (self .entry) .wires) ≡ None) (λ e. lowestFault (ruleOf rule) (wiringOf (now (self .entry))) (now (self .entry) .wires) ≡ Some (told e)) ⌝ }
-    {
-        for wire in 0..self.wires {
-            self.check_wire(wire, rule)?;
-        }
-        Ok(())
+// Every wire is sound, or the fault of the lowest faulty one.
+pub fn check_wires(circuit: &Circuit, rule: TruthRule) -> Result<(), Refusal>
+    ensures { λ r. ⌜ Cases r (λ _. lowestFault (ruleOf rule) (wiringOf (now (circuit .entry))) (now (circuit .entry) .wires) ≡ None) (λ e. lowestFault (ruleOf rule) (wiringOf (now (circuit .entry))) (now (circuit .entry) .wires) ≡ Some (told e)) ⌝ }
+{
+    for wire in 0..circuit.wires {
+        check_wire(circuit, wire, rule)?;
     }
-
-    // The number of outputs.
-    pub fn count_outputs(&self) -> u16
-        ensures { λ r. ⌜ r ≡ length (outputWires (wiringOf (now (self .entry)))) ⌝ }
-    {
-        let mut count = 0;
-        for wire in 0..self.wires {
-            count += u16::from(self.is_output(wire));
-        }
-        count
-    }
-
-    // The number of gates that are garbled.
-    pub fn count_garbled(&self) -> u16
-        ensures { λ r. ⌜ r ≡ length (garbledWires (wiringOf (now (self .entry)))) ⌝ }
-    {
-        let mut count = 0;
-        for wire in 0..self.wires {
-            count += u16::from(self.is_garbled(wire));
-        }
-        count
-    }
+    Ok(())
 }
 
 // A checked table: its circuit, with the numbers of garbled gates and of outputs.
@@ -192,7 +169,7 @@ impl<'a> Table<'a> {
         if bytes.len() != 4 + 5 * usize::from(circuit.wires) {
             return Err(Refusal::Length);
         }
-        circuit.check_wires(TruthRule::ByClass)?;
+        check_wires(&circuit, TruthRule::ByClass)?;
         let outputs = circuit.count_outputs();
         check_outputs(outputs)?;
         let garbled = circuit.count_garbled();

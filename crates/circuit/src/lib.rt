@@ -1,9 +1,8 @@
-// Boolean circuits as tables of bytes: read, checked, run in the clear, and stripped to their public part.
+// Circuit tables: checked, run in the clear, and stripped to their public part.
 
 mod check;
 mod plain;
 mod publish;
-mod wires;
 
 pub use check::MOST_INPUTS;
 pub use check::MOST_OUTPUTS;
@@ -12,6 +11,7 @@ pub use check::SIDES;
 pub use check::Table;
 pub use check::TruthRule;
 pub use check::check_sizes;
-pub use wires::Circuit;
-pub use wires::Class;
-pub use wires::look_up;
+pub use check::check_wires;
+pub use plain::run_plain;
+pub use publish::public_byte;
+pub use publish::public_table;

@@ -4,7 +4,7 @@ ghost use mathlib.Core.Path.{_≡_};
 ghost use Rattle.refusal.specs.Told.{told, placeOf};
 
 // A lent buffer, or a key, whose length a call asks for.
-#[derive(Clone, Copy, PartialEq, Eq, Debug)]
+#[derive(Clone, Copy, Debug)]
 pub enum Buffer {
     Form,
     Store,
@@ -18,7 +18,7 @@ pub enum Buffer {
 }
 
 // Why a call said no. A wire is given by its number in the table.
-#[derive(Clone, Copy, PartialEq, Eq, Debug)]
+#[derive(Clone, Copy, Debug)]
 pub enum Refusal {
     // fewer bytes than the sizes take
     SizesCutShort,

@@ -4,7 +4,7 @@ use native.Mathlib.Omega.{arith}
 use borrow.Author.Needs.{needs}
 use lib.ListN.{length-drop}
 use lib.Seq.{take-all}
-use Rattle.circuit.specs.Wires.{short}
+use Rattle.wires.specs.Wires.{short}
 use Rattle.circuit.proofs.Tables.{same-wiring}
 use Rattle.circuit.proofs.check.split_sizes.Needs as need
 

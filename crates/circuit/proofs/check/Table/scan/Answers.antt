@@ -2,9 +2,9 @@ use mathlib.Core.Path.{sym, _∙_, ap}
 use borrow.Author.Needs.{needs}
 use lib.ListN.{length}
 use Rattle.std.proofs.shelf.Results.{err-from-errBy}
-use Rattle.circuit.specs.Wires.{outputWires}
+use Rattle.wires.specs.Wires.{outputWires}
 use Rattle.circuit.specs.Check.{orElse, outputsFault}
-use Rattle.circuit.specs.Read.{wiringOf}
+use Rattle.wires.specs.Read.{wiringOf}
 use Rattle.circuit.proofs.Tables.{past-length}
 use Rattle.circuit.proofs.check.Table.scan.Needs as need
 

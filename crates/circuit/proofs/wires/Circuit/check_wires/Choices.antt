@@ -1,8 +1,0 @@
-use mathlib.Core.Path.{_≡_}
-use Rattle.std.specs.declared.option.Option.the-variants.{None}
-use Rattle.circuit.specs.Check.{lowestFault}
-use Rattle.circuit.specs.Read.{wiringOf, ruleOf}
-use Rattle.circuit.proofs.wires.Circuit.check_wires.Given as given
-
-abbrev pub Inv-loop-wire : given.InvT-loop-wire
-Inv-loop-wire l = lowestFault (ruleOf (l .rule)) (wiringOf (l .self)) (l .wire) ≡ None
