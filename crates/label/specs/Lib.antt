@@ -1,0 +1,5 @@
+pub mod Sums
+pub mod Bytes
+pub mod Labels
+pub mod Hashes
+pub mod Rows
