@@ -1,0 +1,4 @@
+pub mod Views
+pub mod Numbers
+pub mod Sums
+pub mod Gates
