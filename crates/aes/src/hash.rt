@@ -68,7 +68,9 @@ impl AesHash {
         ensures { λ r. ⌜ Cases r (λ h. (length (now (key .entry)) ≡ 32) × (materialOf h ≡ materialIn (now (key .entry)))) (λ e. (length (now (key .entry)) ≡ 32 → ⊥) × (told e ≡ (10, 6))) ⌝ }
     {
         if key.len() != 32 {
-            return Err(Refusal::WrongLength { buffer: Buffer::Key });
+            return Err(Refusal::WrongLength {
+                buffer: Buffer::Key,
+            });
         }
         let words = expanded(&key[0..16]);
         let u1 = Multiples::new(number_of(&key[16..24]));
@@ -100,7 +102,13 @@ impl AesHash {
         let doubled = (twice(left), twice(right));
         let word = number_of(&ciphertext[0..8]) ^ doubled.0;
         let control = ciphertext[8] as u64 ^ doubled.1;
-        Answer { word, pair: ControlPair { low: control % 2 == 1, high: control / 2 % 2 == 1 } }
+        Answer {
+            word,
+            pair: ControlPair {
+                low: control % 2 == 1,
+                high: control / 2 % 2 == 1,
+            },
+        }
     }
 }
 

@@ -51,7 +51,13 @@ fn read_row(first: Row) -> Answer
     ensures { λ r. ⌜ ((rest : List ℕ) → r ≡ readBlock (serialised (row first rest))) ⌝ }
 {
     let word = u64::from(first.0) + (u64::from(first.1) << 32);
-    Answer { word, pair: ControlPair { low: first.2 % 2 == 1, high: first.2 / 2 % 2 == 1 } }
+    Answer {
+        word,
+        pair: ControlPair {
+            low: first.2 % 2 == 1,
+            high: first.2 / 2 % 2 == 1,
+        },
+    }
 }
 
 impl ChaChaHash {
@@ -60,7 +66,9 @@ impl ChaChaHash {
         ensures { λ r. ⌜ Cases r (λ h. (length (now (key .entry)) ≡ 28) × (materialOf h ≡ now (key .entry))) (λ e. (length (now (key .entry)) ≡ 28 → ⊥) × (told e ≡ (10, 6))) ⌝ }
     {
         if key.len() != 28 {
-            return Err(Refusal::WrongLength { buffer: Buffer::Key });
+            return Err(Refusal::WrongLength {
+                buffer: Buffer::Key,
+            });
         }
         Ok(ChaChaHash {
             key: (word(key, 0), word(key, 4), word(key, 8), word(key, 12)),

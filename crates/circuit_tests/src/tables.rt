@@ -8,7 +8,12 @@ use std::alloc::Global;
 pub(crate) const MONDAY: &str = "030002000001a8000000000000000000000100";
 
 // A table of n wires: m inputs of side 0, then free gates on wire 0 twice; the last `outputs` wires are outputs.
-pub(crate) fn long_table(heap: Global, n: u16, m: u16, outputs: u16) -> Result<Vec<u8>, AllocError> {
+pub(crate) fn long_table(
+    heap: Global,
+    n: u16,
+    m: u16,
+    outputs: u16,
+) -> Result<Vec<u8>, AllocError> {
     let mut bytes = Vec::new(heap);
     bytes.extend_from_slice(&n.to_le_bytes())?;
     bytes.extend_from_slice(&m.to_le_bytes())?;

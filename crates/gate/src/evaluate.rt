@@ -33,7 +33,13 @@ impl Parity {
 }
 
 // The view, from the control numbers and the pairs met.
-fn view_from(parity: Parity, controls: [ControlPair; 5], answers: [Answer; 3], i: bool, j: bool) -> View
+fn view_from(
+    parity: Parity,
+    controls: [ControlPair; 5],
+    answers: [Answer; 3],
+    i: bool,
+    j: bool,
+) -> View
     ensures { λ r. ⌜ r ≡ viewFrom parity (fiveIn pairs controls) (threePairs answers) i j ⌝ }
 {
     let [a, b, s] = answers;
@@ -49,18 +55,34 @@ fn view_from(parity: Parity, controls: [ControlPair; 5], answers: [Answer; 3], i
 }
 
 // The output label, from ciphertexts, view and the words met.
-fn output_label(ciphertexts: [u64; 3], view: View, first: (u64, u64), second: (u64, u64), answers: [Answer; 3], i: bool, j: bool) -> (u64, u64)
+fn output_label(
+    ciphertexts: [u64; 3],
+    view: View,
+    first: (u64, u64),
+    second: (u64, u64),
+    answers: [Answer; 3],
+    i: bool,
+    j: bool,
+) -> (u64, u64)
     ensures { λ r. ⌜ r ≡ evaluated halves (threeIn halves ciphertexts) view first second (threeWords answers) i j ⌝ }
 {
     let [third, fourth, fifth] = ciphertexts;
     let [a, b, s] = answers;
     let (left, right) = add_back([0, 0, third, fourth, fifth], i, j);
     let (view_left, view_right) = view_value(view, first, second);
-    (left.xor(a.word).xor(s.word).xor(view_left), right.xor(b.word).xor(s.word).xor(view_right))
+    (
+        left.xor(a.word).xor(s.word).xor(view_left),
+        right.xor(b.word).xor(s.word).xor(view_right),
+    )
 }
 
 // The three answers that the server meets, in the order asked.
-fn ask_three<H: Hash>(hash: &mut H, first: (u64, u64), second: (u64, u64), tweak: u32) -> [Answer; 3]
+fn ask_three<H: Hash>(
+    hash: &mut H,
+    first: (u64, u64),
+    second: (u64, u64),
+    tweak: u32,
+) -> [Answer; 3]
     ensures value { λ r. ⌜ r ≡ answersTo (function (now (hash .entry))) (threeQuestions first second tweak) ⌝ }
     ensures kept { λ _. ⌜ function (now (hash .exit)) ≡ function (now (hash .entry)) ⌝ }
     ensures asked { λ _. ⌜ Asked asks (threeQuestions first second tweak) (now (hash .entry)) (now (hash .exit)) ⌝ }
@@ -73,7 +95,15 @@ fn ask_three<H: Hash>(hash: &mut H, first: (u64, u64), second: (u64, u64), tweak
 }
 
 // The label of a gate's output, from its ciphertexts and control pairs, the labels met on its pair, and the first of its three tweaks.
-pub fn evaluate_gate<H: Hash>(hash: &mut H, parity: Parity, ciphertexts: [u64; 3], controls: [ControlPair; 5], first: (u64, u64), second: (u64, u64), tweak: u32) -> (u64, u64)
+pub fn evaluate_gate<H: Hash>(
+    hash: &mut H,
+    parity: Parity,
+    ciphertexts: [u64; 3],
+    controls: [ControlPair; 5],
+    first: (u64, u64),
+    second: (u64, u64),
+    tweak: u32,
+) -> (u64, u64)
     ensures value { λ r. ⌜ r ≡ evaluatedGate (function (now (hash .entry))) parity ciphertexts controls first second tweak ⌝ }
     ensures kept { λ _. ⌜ function (now (hash .exit)) ≡ function (now (hash .entry)) ⌝ }
     ensures asked { λ _. ⌜ Asked asks (threeQuestions first second tweak) (now (hash .entry)) (now (hash .exit)) ⌝ }

@@ -37,7 +37,10 @@ pub struct GarbledGate {
 pub fn shift(delta: (u64, u64), label: (u64, u64), bit: bool) -> (u64, u64)
     ensures { λ r. ⌜ r ≡ shifted halves delta label bit ⌝ }
 {
-    (label.0.xor(delta.0.times(bit)), label.1.xor(delta.1.times(bit)))
+    (
+        label.0.xor(delta.0.times(bit)),
+        label.1.xor(delta.1.times(bit)),
+    )
 }
 
 // The words of six answers.
@@ -61,9 +64,12 @@ pub fn view_value(view: View, x: (u64, u64), y: (u64, u64)) -> (u64, u64)
     ensures { λ r. ⌜ r ≡ (viewLeft halves view x y, viewRight halves view x y) ⌝ }
 {
     let left = x.0.xor(x.1).xor(y.0).times(view.alpha);
-    let left = left.xor(x.0.xor(y.1).times(view.beta)).xor(y.0.times(view.gamma));
+    let left = left.xor(x.0.xor(y.1).times(view.beta))
+        .xor(y.0.times(view.gamma));
     let right = x.0.xor(y.1).times(view.alpha);
-    let right = right.xor(x.1.xor(y.0).xor(y.1).times(view.beta)).xor(x.1.times(view.epsilon));
+    let right = right
+        .xor(x.1.xor(y.0).xor(y.1).times(view.beta))
+        .xor(x.1.times(view.epsilon));
     (left, right)
 }
 
@@ -72,7 +78,10 @@ fn added_at(view: View, truth: bool, delta: (u64, u64), x: (u64, u64), y: (u64, 
     ensures { λ r. ⌜ r ≡ (bitXor (viewLeft halves view x y) (cond truth (delta .0) 0), bitXor (viewRight halves view x y) (cond truth (delta .1) 0)) ⌝ }
 {
     let (left, right) = view_value(view, x, y);
-    (left.xor(delta.0.times(truth)), right.xor(delta.1.times(truth)))
+    (
+        left.xor(delta.0.times(truth)),
+        right.xor(delta.1.times(truth)),
+    )
 }
 
 // The pair that a view adds to the controls on the left, and on the right.
@@ -80,13 +89,26 @@ fn coded(parity: Parity, view: View) -> (ControlPair, ControlPair)
     ensures { λ r. ⌜ r ≡ (codedLeft pairs lowBit highBit parity view, codedRight pairs lowBit highBit parity view) ⌝ }
 {
     (
-        ControlPair { low: view.alpha, high: parity.if_hidden(view.gamma) },
-        ControlPair { low: view.beta, high: parity.if_hidden(view.epsilon) },
+        ControlPair {
+            low: view.alpha,
+            high: parity.if_hidden(view.gamma),
+        },
+        ControlPair {
+            low: view.beta,
+            high: parity.if_hidden(view.epsilon),
+        },
     )
 }
 
 // The five numbers of the halves: false label and ciphertexts.
-fn half_numbers(views: [View; 4], truth: Truth, delta: (u64, u64), a: (u64, u64), b: (u64, u64), words: [u64; 6]) -> [u64; 5]
+fn half_numbers(
+    views: [View; 4],
+    truth: Truth,
+    delta: (u64, u64),
+    a: (u64, u64),
+    b: (u64, u64),
+    words: [u64; 6],
+) -> [u64; 5]
     ensures { λ r. ⌜ ((c : Parity) (d : Dice) → views ≡ viewsOf c truth d → r ≡ listed (garbled halves c truth d delta a b (sixIn halves words))) ⌝ }
 {
     let [v00, v01, v10, v11] = views;
@@ -117,20 +139,50 @@ fn trim(parity: Parity, numbers: [ControlPair; 5]) -> [ControlPair; 5]
 {
     let [k1, k2, k3, k4, k5] = numbers;
     [
-        ControlPair { low: k1.low, high: parity.if_hidden(k1.high) },
-        ControlPair { low: k2.low, high: parity.if_hidden(k2.high) },
-        ControlPair { low: k3.low, high: parity.if_hidden(k3.high) },
-        ControlPair { low: k4.low, high: parity.if_hidden(k4.high) },
-        ControlPair { low: k5.low, high: parity.if_hidden(k5.high) },
+        ControlPair {
+            low: k1.low,
+            high: parity.if_hidden(k1.high),
+        },
+        ControlPair {
+            low: k2.low,
+            high: parity.if_hidden(k2.high),
+        },
+        ControlPair {
+            low: k3.low,
+            high: parity.if_hidden(k3.high),
+        },
+        ControlPair {
+            low: k4.low,
+            high: parity.if_hidden(k4.high),
+        },
+        ControlPair {
+            low: k5.low,
+            high: parity.if_hidden(k5.high),
+        },
     ]
 }
 
 // A garbled gate, from its six answers.
-fn assemble(parity: Parity, truth: Truth, dice: Dice, delta: (u64, u64), a: (u64, u64), b: (u64, u64), answers: [Answer; 6]) -> GarbledGate
+fn assemble(
+    parity: Parity,
+    truth: Truth,
+    dice: Dice,
+    delta: (u64, u64),
+    a: (u64, u64),
+    b: (u64, u64),
+    answers: [Answer; 6],
+) -> GarbledGate
     ensures { λ r. ⌜ r ≡ assembled parity truth dice delta a b answers ⌝ }
 {
     let views = draw_views(parity, truth, dice);
-    let [left, right, third, fourth, fifth] = half_numbers(views, truth, delta, a, b, words_of(answers));
+    let [left, right, third, fourth, fifth] = half_numbers(
+        views,
+        truth,
+        delta,
+        a,
+        b,
+        words_of(answers),
+    );
     let numbers = control_numbers(parity, views, pairs_of(answers));
     GarbledGate {
         label: (left, right),
@@ -140,7 +192,13 @@ fn assemble(parity: Parity, truth: Truth, dice: Dice, delta: (u64, u64), a: (u64
 }
 
 // The six answers of a gate, from its labels of colour 0, in the order asked.
-fn ask_six<H: Hash>(hash: &mut H, delta: (u64, u64), a: (u64, u64), b: (u64, u64), tweak: u32) -> [Answer; 6]
+fn ask_six<H: Hash>(
+    hash: &mut H,
+    delta: (u64, u64),
+    a: (u64, u64),
+    b: (u64, u64),
+    tweak: u32,
+) -> [Answer; 6]
     ensures value { λ r. ⌜ r ≡ answersTo (function (now (hash .entry))) (sixQuestions delta a b tweak) ⌝ }
     ensures kept { λ _. ⌜ function (now (hash .exit)) ≡ function (now (hash .entry)) ⌝ }
     ensures asked { λ _. ⌜ Asked asks (sixQuestions delta a b tweak) (now (hash .entry)) (now (hash .exit)) ⌝ }
@@ -154,11 +212,27 @@ fn ask_six<H: Hash>(hash: &mut H, delta: (u64, u64), a: (u64, u64), b: (u64, u64
     let b1_answer = hash.query(b1, second);
     let s0_answer = hash.query(sum, third);
     let s1_answer = hash.query(sum1, third);
-    [a0_answer, a1_answer, b0_answer, b1_answer, s0_answer, s1_answer]
+    [
+        a0_answer,
+        a1_answer,
+        b0_answer,
+        b1_answer,
+        s0_answer,
+        s1_answer,
+    ]
 }
 
 // A gate garbled: its parity and truth table, a dice byte, the offset, its pair's false labels, and the first of its three tweaks.
-pub fn garble_gate<H: Hash>(hash: &mut H, parity: Parity, truth_table: u8, dice: u8, delta: (u64, u64), first: (u64, u64), second: (u64, u64), tweak: u32) -> GarbledGate
+pub fn garble_gate<H: Hash>(
+    hash: &mut H,
+    parity: Parity,
+    truth_table: u8,
+    dice: u8,
+    delta: (u64, u64),
+    first: (u64, u64),
+    second: (u64, u64),
+    tweak: u32,
+) -> GarbledGate
     ensures value { λ r. ⌜ r ≡ garbledGate (function (now (hash .entry))) parity «truth_table» dice delta first second tweak ⌝ }
     ensures kept { λ _. ⌜ function (now (hash .exit)) ≡ function (now (hash .entry)) ⌝ }
     ensures asked { λ _. ⌜ Asked asks (gateQuestions delta first second tweak) (now (hash .entry)) (now (hash .exit)) ⌝ }

@@ -13,7 +13,13 @@ pub fn five_numbers<T: Xor>(left: [T; 4], right: [T; 4]) -> [T; 5]
     let [l00, l01, l10, l11] = left;
     let [r00, r01, r10, _] = right;
     let base = l00.xor(r00);
-    [l00, r00, base.xor(l10).xor(r10), base.xor(l01).xor(r01), l10.xor(l11)]
+    [
+        l00,
+        r00,
+        base.xor(l10).xor(r10),
+        base.xor(l01).xor(r01),
+        l10.xor(l11),
+    ]
 }
 
 // What the server adds on the left and on the right, at its pair of colours.
@@ -35,7 +41,12 @@ fn left_values<T: Xor>(answers: [T; 6], added: [T; 4]) -> [T; 4]
 {
     let [a0, a1, _, _, s0, s1] = answers;
     let [k00, k01, k10, k11] = added;
-    [a0.xor(s0).xor(k00), a0.xor(s1).xor(k01), a1.xor(s1).xor(k10), a1.xor(s0).xor(k11)]
+    [
+        a0.xor(s0).xor(k00),
+        a0.xor(s1).xor(k01),
+        a1.xor(s1).xor(k10),
+        a1.xor(s0).xor(k11),
+    ]
 }
 
 // The right values: the answers for B and S, with something added.
@@ -44,7 +55,12 @@ fn right_values<T: Xor>(answers: [T; 6], added: [T; 4]) -> [T; 4]
 {
     let [_, _, b0, b1, s0, s1] = answers;
     let [m00, m01, m10, m11] = added;
-    [b0.xor(s0).xor(m00), b1.xor(s1).xor(m01), b0.xor(s1).xor(m10), b1.xor(s0).xor(m11)]
+    [
+        b0.xor(s0).xor(m00),
+        b1.xor(s1).xor(m01),
+        b0.xor(s1).xor(m10),
+        b1.xor(s0).xor(m11),
+    ]
 }
 
 // The five numbers of a gate: its answers, and what is added to them on either side.

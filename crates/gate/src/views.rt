@@ -121,7 +121,10 @@ fn view_at(parity: Parity, truth: Truth, dice: Dice, i: bool, j: bool) -> View
     ensures { λ r. ⌜ r ≡ viewAt parity truth dice i j ⌝ }
 {
     let a = differ(differ(truth.t10, truth.t11), parity.if_hidden(dice.gamma0));
-    let b = differ(differ(truth.t01, truth.t11), parity.if_hidden(dice.epsilon0));
+    let b = differ(
+        differ(truth.t01, truth.t11),
+        parity.if_hidden(dice.epsilon0),
+    );
     let odd = truth.parity();
     View {
         alpha: differ(dice.rho1, alpha_shift(i, j, a, b)),

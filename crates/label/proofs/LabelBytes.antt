@@ -37,8 +37,8 @@ little-eight-more s long = little-eight (drop 8 s) (simp length-drop (omega arit
 -- A label comes back from its bytes.
 pub label-back : (l : Label) → l .0 < 2 ^ 64 → l .1 < 2 ^ 64 → labelIn (labelBytes l) ≡ l
 label-back l left right = λ i. (
-    (ap little (take-at (bytesOf 8 (l .0)) (bytesOf 8 (l .1)) 8 (length-bytesOf 8 (l .0))) ∙ little-back 8 (l .0) left) i,
-    (ap (λ s. little (take 8 s)) (drop-at (bytesOf 8 (l .0)) (bytesOf 8 (l .1)) 8 (length-bytesOf 8 (l .0)))
+  (ap little (take-at (bytesOf 8 (l .0)) (bytesOf 8 (l .1)) 8 (length-bytesOf 8 (l .0))) ∙ little-back 8 (l .0) left) i,
+  (ap (λ s. little (take 8 s)) (drop-at (bytesOf 8 (l .0)) (bytesOf 8 (l .1)) 8 (length-bytesOf 8 (l .0)))
       ∙ ap little (take-all 8 (bytesOf 8 (l .1)) (rw (length-bytesOf 8 (l .1)) (omega arith))) ∙ little-back 8 (l .1) right) i,
 )
 

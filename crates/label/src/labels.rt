@@ -20,14 +20,48 @@ pub fn to_bytes(label: (u64, u64)) -> [u8; 16]
 {
     let [a0, a1, a2, a3, a4, a5, a6, a7] = label.0.to_le_bytes();
     let [b0, b1, b2, b3, b4, b5, b6, b7] = label.1.to_le_bytes();
-    [a0, a1, a2, a3, a4, a5, a6, a7, b0, b1, b2, b3, b4, b5, b6, b7]
+    [
+        a0,
+        a1,
+        a2,
+        a3,
+        a4,
+        a5,
+        a6,
+        a7,
+        b0,
+        b1,
+        b2,
+        b3,
+        b4,
+        b5,
+        b6,
+        b7,
+    ]
 }
 
 // The label in 16 bytes.
 pub fn from_bytes(bytes: &[u8; 16]) -> (u64, u64)
     ensures { λ r. ⌜ r ≡ labelIn (now (bytes .entry)) ⌝ }
 {
-    let [a0, a1, a2, a3, a4, a5, a6, a7, b0, b1, b2, b3, b4, b5, b6, b7] = *bytes;
+    let [
+        a0,
+        a1,
+        a2,
+        a3,
+        a4,
+        a5,
+        a6,
+        a7,
+        b0,
+        b1,
+        b2,
+        b3,
+        b4,
+        b5,
+        b6,
+        b7,
+    ] = *bytes;
     (
         u64::from_le_bytes([a0, a1, a2, a3, a4, a5, a6, a7]),
         u64::from_le_bytes([b0, b1, b2, b3, b4, b5, b6, b7]),

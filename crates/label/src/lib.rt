@@ -15,6 +15,8 @@ pub use rows::AnswerTable;
 pub use rows::AnswerTableHash;
 pub use rows::Row;
 pub use xor::ControlPair;
+pub use xor::ControlPairDebug;
+pub use xor::ControlPairPartialEq;
 pub use xor::HalfXor;
 pub use xor::LabelXor;
 pub use xor::PairXor;

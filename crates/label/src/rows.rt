@@ -21,7 +21,13 @@ pub struct AnswerTable<'a> {
     pub rows: &'a [Row],
 }
 
-const BLANK: Answer = Answer { word: 0, pair: ControlPair { low: false, high: false } };
+const BLANK: Answer = Answer {
+    word: 0,
+    pair: ControlPair {
+        low: false,
+        high: false,
+    },
+};
 
 pub impl Hash for AnswerTable<'_> as AnswerTableHash {
     ghost function = { λ t. tableFunction (at (t .rows)) };

@@ -62,15 +62,28 @@ pub impl Xor for ControlPair as PairXor {
     ghost nought = { record { low = false; high = false } };
 
     fn zero() -> ControlPair {
-        ControlPair { low: false, high: false }
+        ControlPair {
+            low: false,
+            high: false,
+        }
     }
 
     fn xor(self, other: ControlPair) -> ControlPair {
-        ControlPair { low: self.low != other.low, high: self.high != other.high }
+        ControlPair {
+            low: self.low != other.low,
+            high: self.high != other.high,
+        }
     }
 
     fn times(self, bit: bool) -> ControlPair {
-        if bit { self } else { ControlPair { low: false, high: false } }
+        if bit {
+            self
+        } else {
+            ControlPair {
+                low: false,
+                high: false,
+            }
+        }
     }
 }
 

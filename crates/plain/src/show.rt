@@ -61,7 +61,11 @@ pub(crate) fn digits(heap: Global, bits: &[bool]) -> Result<String, AllocError> 
 }
 
 // The bits of a text of this many digits, each 0 or 1.
-pub(crate) fn bits_of(heap: Global, text: &[u8], count: usize) -> Result<Option<Vec<bool>>, AllocError> {
+pub(crate) fn bits_of(
+    heap: Global,
+    text: &[u8],
+    count: usize,
+) -> Result<Option<Vec<bool>>, AllocError> {
     if text.len() != count {
         return Ok(None);
     }

@@ -145,7 +145,10 @@ fn print_query(rt: &LibcRuntime, hash: &AesHash, query: Query) -> io::Result<()>
         tweak,
         answer,
     } = query;
-    let Answer { word, pair: ControlPair { low, high } } = hash.answer(query.label, tweak);
+    let Answer {
+        word,
+        pair: ControlPair { low, high },
+    } = hash.answer(query.label, tweak);
     if (word, (low, high)) == answer {
         println!(
             rt,

@@ -1,14 +1,14 @@
 // The ChaCha20 vectors of RFC 8439, and queries of the hash built on it.
 
-use chacha::ChaChaHash;
-use chacha::block;
-use chacha::quarter_round;
 use crate::chacha_published::BLOCKS;
 use crate::chacha_published::BlockVector;
 use crate::chacha_published::STATE_AFTER;
 use crate::chacha_published::STATE_BEFORE;
 use crate::chacha_queries::QUERIES;
 use crate::chacha_queries::Query;
+use chacha::ChaChaHash;
+use chacha::block;
+use chacha::quarter_round;
 use label::Answer;
 use label::ControlPair;
 use std::io;
@@ -19,7 +19,10 @@ fn run_quarter_round(rt: &LibcRuntime) -> io::Result<()> {
     if a == 0xea2a92f4 && b == 0xcb1cf8ce && c == 0x4581472e && d == 0x5881c4bb {
         println!(rt, "ChaCha20 2.1.1 quarter round: ok")
     } else {
-        println!(rt, "ChaCha20 2.1.1 quarter round: {a:08x} {b:08x} {c:08x} {d:08x}")
+        println!(
+            rt,
+            "ChaCha20 2.1.1 quarter round: {a:08x} {b:08x} {c:08x} {d:08x}"
+        )
     }
 }
 
@@ -52,7 +55,10 @@ fn run_block(rt: &LibcRuntime, v: &BlockVector) -> io::Result<()> {
         let is = found[i];
         let expected = v.expected[i];
         if is != expected {
-            return println!(rt, "ChaCha20 {name} block: byte {i} is {is:02x}, not {expected:02x}");
+            return println!(
+                rt,
+                "ChaCha20 {name} block: byte {i} is {is:02x}, not {expected:02x}"
+            );
         }
     }
     println!(rt, "ChaCha20 {name} block: ok")
@@ -65,7 +71,10 @@ fn run_query(rt: &LibcRuntime, q: &Query) -> io::Result<()> {
     let Ok(hash) = ChaChaHash::new(key) else {
         return println!(rt, "ChaCha hash, {name}: the key material is refused");
     };
-    let Answer { word, pair: ControlPair { low, high } } = hash.answer(q.label, q.tweak);
+    let Answer {
+        word,
+        pair: ControlPair { low, high },
+    } = hash.answer(q.label, q.tweak);
     let (expected, (expected_low, expected_high)) = q.expected;
     if word == expected && low == expected_low && high == expected_high {
         println!(rt, "ChaCha hash, {name}: ok")
@@ -77,7 +86,10 @@ fn run_query(rt: &LibcRuntime, q: &Query) -> io::Result<()> {
 // Key material of another length than 28 bytes.
 fn run_refusals(rt: &LibcRuntime) -> io::Result<()> {
     match (ChaChaHash::new(&[0; 27]), ChaChaHash::new(&[0; 29])) {
-        (Err(short), Err(long)) if short.place() == 6 && long.place() == 6 => println!(rt, "ChaCha hash, 27 and 29 bytes: ok"),
+        (Err(short), Err(long)) if short.place() == 6 && long.place() == 6 => println!(
+            rt,
+            "ChaCha hash, 27 and 29 bytes: ok"
+        ),
         _ => println!(rt, "ChaCha hash, 27 and 29 bytes: not refused"),
     }
 }

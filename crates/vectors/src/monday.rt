@@ -18,23 +18,35 @@ use label::colour;
 use std::io;
 
 const DELTA: (u64, u64) = (1, 2);
+
 const FIRST: (u64, u64) = (16, 32);
+
 const SECOND: (u64, u64) = (65, 130);
+
 const TWEAK: u32 = 6;
 
 // The answer for a number: 256 times it, and its two low bits.
 const fn answer(number: u16) -> Answer {
     Answer {
         word: 256 * number as u64,
-        pair: ControlPair { low: number % 2 == 1, high: number / 2 % 2 == 1 },
+        pair: ControlPair {
+            low: number % 2 == 1,
+            high: number / 2 % 2 == 1,
+        },
     }
 }
 
 // Row r has the answers for the numbers 2r and 2r + 1.
 fn rows() -> [Row; 17] {
-    let mut rows = [Row { zero: answer(0), one: answer(0) }; 17];
+    let mut rows = [Row {
+        zero: answer(0),
+        one: answer(0),
+    }; 17];
     for r in 0..17u16 {
-        rows[usize::from(r)] = Row { zero: answer(2 * r), one: answer(2 * r + 1) };
+        rows[usize::from(r)] = Row {
+            zero: answer(2 * r),
+            one: answer(2 * r + 1),
+        };
     }
     rows
 }
@@ -57,7 +69,12 @@ fn control_word(controls: [ControlPair; 5]) -> u16 {
 
 // A view as its bits α, β, γ, ε.
 fn bits(view: View) -> (u8, u8, u8, u8) {
-    (u8::from(view.alpha), u8::from(view.beta), u8::from(view.gamma), u8::from(view.epsilon))
+    (
+        u8::from(view.alpha),
+        u8::from(view.beta),
+        u8::from(view.gamma),
+        u8::from(view.epsilon),
+    )
 }
 
 // The view at two colours.
@@ -73,10 +90,24 @@ fn view_at(i: bool, j: bool) -> View {
 }
 
 // One pair of answers: the labels met, their colours, the view there, the output label, and the bit that it stands for.
-fn play(rt: &LibcRuntime, hash: &mut AnswerTable, gate: &GarbledGate, u: bool, v: bool) -> io::Result<()> {
+fn play(
+    rt: &LibcRuntime,
+    hash: &mut AnswerTable,
+    gate: &GarbledGate,
+    u: bool,
+    v: bool,
+) -> io::Result<()> {
     let first = shift(DELTA, FIRST, u);
     let second = shift(DELTA, SECOND, v);
-    let output = evaluate_gate(hash, Parity::Odd, gate.ciphertexts, gate.controls, first, second, TWEAK);
+    let output = evaluate_gate(
+        hash,
+        Parity::Odd,
+        gate.ciphertexts,
+        gate.controls,
+        first,
+        second,
+        TWEAK,
+    );
     let view = bits(view_at(colour(first), colour(second)));
     let (i, j) = (u8::from(colour(first)), u8::from(colour(second)));
     let result = if output == gate.label {
@@ -87,7 +118,10 @@ fn play(rt: &LibcRuntime, hash: &mut AnswerTable, gate: &GarbledGate, u: bool, v
         "neither"
     };
     let (u, v) = (u8::from(u), u8::from(v));
-    println!(rt, "Monday {u} {v}: labels {first:?} {second:?}, colours {i} {j}, view {view:?}, output label {output:?}, output {result}")
+    println!(
+        rt,
+        "Monday {u} {v}: labels {first:?} {second:?}, colours {i} {j}, view {view:?}, output label {output:?}, output {result}"
+    )
 }
 
 pub(crate) fn run_monday(rt: &LibcRuntime) -> io::Result<()> {
@@ -97,7 +131,10 @@ pub(crate) fn run_monday(rt: &LibcRuntime) -> io::Result<()> {
     let label = gate.label;
     let ciphertexts = gate.ciphertexts;
     let word = control_word(gate.controls);
-    println!(rt, "Monday gate: false label {label:?}, ciphertexts {ciphertexts:?}, control word {word}")?;
+    println!(
+        rt,
+        "Monday gate: false label {label:?}, ciphertexts {ciphertexts:?}, control word {word}"
+    )?;
     play(rt, &mut hash, &gate, false, false)?;
     play(rt, &mut hash, &gate, false, true)?;
     play(rt, &mut hash, &gate, true, false)?;

@@ -18,6 +18,6 @@ unfolding sixteen
 returns c =
     let l = c .args .label in
     let bytes =
-        (λ i. sixteen (c .to-le-bytes .ensures i) (c .to-le-bytes-2 .ensures i))
-        ∙ (λ i. sym (bytesOf-eight (l .0)) i ++ sym (bytesOf-eight (l .1)) i) in
+    (λ i. sixteen (c .to-le-bytes .ensures i) (c .to-le-bytes-2 .ensures i))
+    ∙ (λ i. sym (bytesOf-eight (l .0)) i ++ sym (bytesOf-eight (l .1)) i) in
     record { value = bytes; back = ap labelIn bytes ∙ label-back l (omega arith) (omega arith) }

@@ -1,0 +1,6 @@
+// Tests of labels, hashes and gates.
+
+#[cfg(test)]
+mod gates;
+#[cfg(test)]
+mod hashes;
