@@ -4,14 +4,14 @@ ghost use mathlib.Core.Path.{_≡_};
 ghost use Rattle.aes.specs.Hash.{times64};
 
 // a times z.
-pub fn twice(a: u64) -> u64
+pub(crate) fn twice(a: u64) -> u64
     ensures { λ r. ⌜ r ≡ times64 a 2 ⌝ }
 {
     (a << 1) ^ ((a >> 63) * 0x1b)
 }
 
 // a times a tweak, by Horner's rule: a doubling for each of the tweak's coefficients, the highest first.
-pub fn times_tweak(a: u64, tweak: u32) -> u64
+pub(crate) fn times_tweak(a: u64, tweak: u32) -> u64
     ensures { λ r. ⌜ r ≡ times64 a tweak ⌝ }
 {
     let mut sum: u64 = 0;

@@ -8,7 +8,7 @@ use crate::gf64::times_tweak;
 
 // A factor, and the products of which its product with any tweak is a sum.
 #[derive(Drop)]
-pub struct Multiples {
+pub(crate) struct Multiples {
     factor: u64,
     entries: [u64; 128],
     ghost fits: { factor < 2 ^ 64 },
@@ -28,7 +28,7 @@ fn multiples_of(a: u64) -> [u64; 128]
 
 impl Multiples {
     // A factor with its table.
-    pub fn new(factor: u64) -> Multiples
+    pub(crate) fn new(factor: u64) -> Multiples
         ensures { λ r. ⌜ r .factor ≡ factor ⌝ }
     {
         let entries = multiples_of(factor);
@@ -36,7 +36,7 @@ impl Multiples {
     }
 
     // The factor times a tweak: the sum of the entries for each four of the tweak's coefficients.
-    pub fn times(&self, tweak: u32) -> u64
+    pub(crate) fn times(&self, tweak: u32) -> u64
         ensures { λ r. ⌜ r ≡ times64 (now (self .entry) .factor) tweak ⌝ }
     {
         let mut sum: u64 = 0;

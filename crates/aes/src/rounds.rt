@@ -109,7 +109,7 @@ fn block_of(s: [u32; 4]) -> [u8; 16]
 }
 
 // The cipher of a block under the key schedule w.
-pub fn cipher(block: &[u8; 16], w: &[u32; 44]) -> [u8; 16]
+pub(crate) fn cipher(block: &[u8; 16], w: &[u32; 44]) -> [u8; 16]
     ensures { λ r. ⌜ r ≡ Cipher (now (block .entry)) (now (w .entry)) ⌝ }
 {
     let mut s = first_round(block, w);

@@ -62,7 +62,7 @@ fn key_word_at(key: &[u8], i: usize) -> u32
 }
 
 // The key schedule.
-pub fn expanded(key: &[u8]) -> [u32; 44]
+pub(crate) fn expanded(key: &[u8]) -> [u32; 44]
     requires { ⌜ length (now key) ≡ 16 ⌝ }
     ensures { λ r. ⌜ r ≡ KeyExpansion (now (key .entry)) ⌝ }
 {

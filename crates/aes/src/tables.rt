@@ -283,7 +283,7 @@ const T0: [u32; 256] = [
 ];
 
 // The S-box's value, and that the S-box starts from an inverse.
-pub fn sub_byte(x: u8) -> u8
+pub(crate) fn sub_byte(x: u8) -> u8
     ensures value { λ r. ⌜ r ≡ SBox x ⌝ }
     ensures inverts { λ _. ⌜ (0 < x → x • inverse x ≡ 1) ⌝ }
 {
@@ -291,26 +291,26 @@ pub fn sub_byte(x: u8) -> u8
 }
 
 // What a byte in row 0, substituted, adds to the mixed column.
-pub fn mixed_row0(x: u8) -> u32
+pub(crate) fn mixed_row0(x: u8) -> u32
     ensures { λ r. ⌜ r ≡ wordOf (2 • SBox x) (SBox x) (SBox x) (3 • SBox x) ⌝ }
 {
     T0[x as usize]
 }
 
 // The same from row 1, whose coefficients are those of row 0 turned by one place; so with rows 2 and 3.
-pub fn mixed_row1(x: u8) -> u32
+pub(crate) fn mixed_row1(x: u8) -> u32
     ensures { λ r. ⌜ r ≡ wordOf (3 • SBox x) (2 • SBox x) (SBox x) (SBox x) ⌝ }
 {
     mixed_row0(x).rotate_right(8)
 }
 
-pub fn mixed_row2(x: u8) -> u32
+pub(crate) fn mixed_row2(x: u8) -> u32
     ensures { λ r. ⌜ r ≡ wordOf (SBox x) (3 • SBox x) (2 • SBox x) (SBox x) ⌝ }
 {
     mixed_row1(x).rotate_right(8)
 }
 
-pub fn mixed_row3(x: u8) -> u32
+pub(crate) fn mixed_row3(x: u8) -> u32
     ensures { λ r. ⌜ r ≡ wordOf (SBox x) (SBox x) (3 • SBox x) (2 • SBox x) ⌝ }
 {
     mixed_row2(x).rotate_right(8)

@@ -4,7 +4,7 @@ use mathlib.Core.Path.{_≡_, refl}
 use mathlib.Core.Bool.{true, false}
 use mathlib.Core.List.{List, [], _∷_}
 use Rattle.chacha.specs.Words.{roll}
-use Rattle.label.specs.Bytes.{little, bytesOf}
+use Rattle.bytes.specs.Little.{little, bytesOf}
 use Rattle.chacha.specs.Bytes.{fourAt}
 use Rattle.chacha.specs.Rounds.{quarterRound, quarterRoundAt, columnRound, diagonalRound, doubleRounds}
 use Rattle.chacha.specs.Block.{initialState, finalState, blockOf}

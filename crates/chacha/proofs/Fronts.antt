@@ -6,7 +6,7 @@ use native.Mathlib.Numerals.{add-one}
 use native.Mathlib.Omega.{arith}
 use lib.ListN.{length, take, drop, set, getD, length-set, take-append-drop}
 use lib.Seq.{take-suc-set, drop-cons, drop-drop}
-use Rattle.label.specs.Bytes.{bytesOf}
+use Rattle.bytes.specs.Little.{bytesOf}
 use Rattle.chacha.specs.Bytes.{fourAt, serialised}
 
 -- a part that begins with the byte at i

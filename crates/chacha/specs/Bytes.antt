@@ -2,7 +2,7 @@
 use Prim.Native.Nat.{ℕ}
 use mathlib.Core.List.{List, [], _∷_, _++_}
 use lib.ListN.{take, drop}
-use Rattle.label.specs.Bytes.{little, bytesOf}
+use Rattle.bytes.specs.Little.{little, bytesOf}
 
 -- The four bytes at p.
 unfoldable pub fourAt : List ℕ → ℕ → List ℕ

@@ -4,7 +4,7 @@ use mathlib.Core.Bool.{Bool}
 use mathlib.Core.List.{List, [], _∷_, _++_}
 use lib.Dec.{eqb}
 use lib.ListN.{getD, take, drop}
-use Rattle.label.specs.Bytes.{little, bytesOf}
+use Rattle.bytes.specs.Little.{little, bytesOf}
 use Rattle.chacha.specs.Bytes.{serialised}
 use Rattle.label.specs.Hashes.{HashFunction}
 use Rattle.label.specs.declared.hash.Answer.{Answer}

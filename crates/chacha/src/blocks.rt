@@ -3,7 +3,7 @@
 ghost use mathlib.Core.Path.{_≡_};
 ghost use Prim.Native.Nat.{_+_, _≤_};
 ghost use lib.ListN.{length};
-ghost use Rattle.label.specs.Bytes.{bytesOf};
+ghost use Rattle.bytes.specs.Little.{bytesOf};
 ghost use Rattle.chacha.specs.Bytes.{fourAt, wordAt, serialised};
 ghost use Rattle.chacha.specs.Block.{initialState, finalState, blockOf};
 ghost use Rattle.chacha.specs.State.{words, addedRows};

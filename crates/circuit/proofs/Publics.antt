@@ -12,7 +12,8 @@ use Rattle.std.specs.Iters.{counting}
 use Rattle.std.proofs.shelf.Counted.{getD-map-counting}
 use Rattle.std.proofs.shelf.Lists.{append-nil, drop-all}
 use Rattle.std.proofs.shelf.Tests.{cases-lt, lt-ltb, le-ltb, cond-true, cond-false}
-use Rattle.wires.specs.Wires.{Wiring, short, bit, kindAt, firstAt, secondAt, sideAt, classOf, classAt, truthAt, isInput, isOutput}
+use Rattle.bytes.specs.Little.{shortAt}
+use Rattle.wires.specs.Wires.{Wiring, bit, kindAt, firstAt, secondAt, sideAt, classOf, classAt, truthAt, isInput, isOutput}
 use Rattle.circuit.specs.Check.{tableWiring}
 use Rattle.circuit.specs.Public.{publicKind, publicByte, publicArrays, publicTable, PublicOf}
 use Rattle.circuit.proofs.Tables.{same-wiring}
@@ -28,7 +29,7 @@ four-and-rest (_ ∷ _ ∷ _ ∷ _ ∷ xs) ys a b c d long =
     ap (λ r. a ∷ b ∷ c ∷ d ∷ (ys ++ r)) (drop-all _ xs (omega arith)) ∙ ap (λ r. a ∷ b ∷ c ∷ d ∷ r) (append-nil ys)
 
 -- A number of 16 bits is that of its two bytes.
-short-from-bytes : (n : ℕ) → n < 65536 → n % 256 + 256 * (n / 256 % 256) ≡ n
+short-from-bytes : (n : ℕ) → n < 65536 → n % 256 + n / 256 % 256 * 256 ≡ n
 short-from-bytes n fits = omega arith
 
 -- The public table read as a table.
@@ -51,8 +52,8 @@ gate-blanked c w below gate = kind-kept c w below ∙ cond-false _ _ _ (le-ltb w
 pair-kept : (c : Wiring) (i : ℕ) → c .wires ≤ i → i < 5 * c .wires → getD (publicArrays c) i 0 ≡ getD (c .arrays) i 0
 pair-kept c i past below = public-at c i below ∙ cond-false _ _ _ (le-ltb i (c .wires) past)
 
-short-kept : (c : Wiring) (i : ℕ) → c .wires ≤ i → i + 1 < 5 * c .wires → short (publicArrays c) i ≡ short (c .arrays) i
-short-kept c i past below = λ j. pair-kept c i past (omega arith) j + 256 * pair-kept c (i + 1) (omega arith) below j
+short-kept : (c : Wiring) (i : ℕ) → c .wires ≤ i → i + 1 < 5 * c .wires → shortAt (publicArrays c) i ≡ shortAt (c .arrays) i
+short-kept c i past below = λ j. pair-kept c i past (omega arith) j + pair-kept c (i + 1) (omega arith) below j * 256
 
 output-kept : (c : Wiring) (w : ℕ) → w < c .wires → bit (getD (publicArrays c) w 0) 7 ≡ bit (kindAt c w) 7
 output-kept c w below = elim (cases-lt w (c .inputs)) [

@@ -7,8 +7,9 @@ use lib.Dec.{eqb, leb, ltb}
 use lib.ListN.{length, drop}
 use Rattle.std.specs.declared.option.Option.{Option}
 use Rattle.std.specs.declared.option.Option.the-variants.{Some, None}
+use Rattle.bytes.specs.Little.{shortAt}
 use Rattle.wires.specs.declared.Class.{Class}
-use Rattle.wires.specs.Wires.{short, bit, Wiring, kindAt, firstAt, secondAt, sideAt, truthAt, classAt, isInput, isOutput, allowed, outputWires}
+use Rattle.wires.specs.Wires.{bit, Wiring, kindAt, firstAt, secondAt, sideAt, truthAt, classAt, isInput, isOutput, allowed, outputWires}
 
 -- The limits.
 abbrev pub most-wires : ℕ
@@ -62,7 +63,7 @@ lowestFault rule c (suc w) = orElse (lowestFault rule c w) (wireFault rule c w)
 
 -- A table: n and m, 16 bits each; then the arrays.
 abbrev pub tableWiring : List ℕ → Wiring
-tableWiring s = record { wires = short s 0; inputs = short s 2; arrays = drop 4 s }
+tableWiring s = record { wires = shortAt s 0; inputs = shortAt s 2; arrays = drop 4 s }
 
 -- The number of outputs.
 abbrev pub outputsFault : ℕ → Option Fault

@@ -8,6 +8,7 @@ use lib.ListN.{getD}
 use Rattle.std.specs.Iters.{counting}
 use Rattle.std.specs.declared.option.Option.{Option}
 use Rattle.std.specs.declared.option.Option.the-variants.{None}
+use Rattle.bytes.specs.Little.{shortBytes}
 use Rattle.wires.specs.Wires.{Wiring, kindAt, firstAt, secondAt, sideAt, truthAt, classAt, isInput, isOutput}
 use Rattle.circuit.specs.Check.{Fault, unless}
 
@@ -21,10 +22,6 @@ publicByte c i = cond (ltb i (c .wires)) (publicKind c i) (getD (c .arrays) i 0)
 
 abbrev pub publicArrays : Wiring → List ℕ
 publicArrays c = map (publicByte c) (counting 0 (5 * c .wires))
-
--- A number of 16 bits as two bytes, the low one first.
-abbrev pub shortBytes : ℕ → List ℕ
-shortBytes n = n % 256 ∷ n / 256 % 256 ∷ []
 
 -- The public table: the sizes, then the public arrays.
 abbrev pub publicTable : Wiring → List ℕ

@@ -9,10 +9,10 @@ ghost use Rattle.refusal.specs.Told.{told};
 ghost use Rattle.wires.specs.Read.{wiringOf};
 ghost use Rattle.wires.specs.Wires.{outputWires};
 ghost use Rattle.circuit.specs.Plain.{valueFrom, valuesOf, atOutputs, plainOutputs, plainFault, PlainRun};
+use bytes::item_or;
 use refusal::Buffer;
 use refusal::Refusal;
 use wires::Circuit;
-use wires::item_or;
 use wires::look_up;
 
 // The bit at a place among the first bits, false past them.

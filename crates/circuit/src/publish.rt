@@ -10,9 +10,9 @@ ghost use Rattle.refusal.specs.Told.{told};
 ghost use Rattle.wires.specs.Read.{wiringOf};
 ghost use Rattle.circuit.specs.Check.{tableWiring};
 ghost use Rattle.circuit.specs.Public.{publicKind, publicByte, publicArrays, publicTable, publicFault, PublicOf};
+use bytes::item_or;
 use refusal::Refusal;
 use wires::Circuit;
-use wires::item_or;
 
 // The kind of a wire with a gate's truth table blank.
 fn public_kind(circuit: &Circuit, wire: u16) -> u8

@@ -1,6 +1,3 @@
-pub mod Little
-pub mod LabelBytes
-pub mod PastRows
 pub mod Solve
 pub mod Every
 pub mod Groups

@@ -1,5 +1,4 @@
 pub mod Sums
-pub mod Bytes
 pub mod Labels
 pub mod Hashes
 pub mod Rows

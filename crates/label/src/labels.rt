@@ -1,7 +1,7 @@
 // Labels of wires: two halves of 64 bits, handed over side by side.
 
 ghost use mathlib.Core.Path.{_≡_};
-ghost use Rattle.label.specs.Labels.{colourOf, labelBytes, labelIn};
+ghost use Rattle.label.specs.Labels.{colourOf, labelBytes, labelAt};
 
 // The left and the right half.
 pub type Label = (u64, u64);
@@ -16,7 +16,7 @@ pub fn colour(label: (u64, u64)) -> bool
 // The 16 bytes of a label; it is read back from them.
 pub fn to_bytes(label: (u64, u64)) -> [u8; 16]
     ensures value { λ r. ⌜ r ≡ labelBytes label ⌝ }
-    ensures back { λ r. ⌜ labelIn r ≡ label ⌝ }
+    ensures back { λ r. ⌜ labelAt r 0 ≡ label ⌝ }
 {
     let [a0, a1, a2, a3, a4, a5, a6, a7] = label.0.to_le_bytes();
     let [b0, b1, b2, b3, b4, b5, b6, b7] = label.1.to_le_bytes();
@@ -42,7 +42,7 @@ pub fn to_bytes(label: (u64, u64)) -> [u8; 16]
 
 // The label in 16 bytes.
 pub fn from_bytes(bytes: &[u8; 16]) -> (u64, u64)
-    ensures { λ r. ⌜ r ≡ labelIn (now (bytes .entry)) ⌝ }
+    ensures { λ r. ⌜ r ≡ labelAt (now (bytes .entry)) 0 ⌝ }
 {
     let [
         a0,

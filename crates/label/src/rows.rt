@@ -7,6 +7,7 @@ use crate::hash::Answer;
 use crate::hash::Hash;
 use crate::labels::colour;
 use crate::xor::ControlPair;
+use bytes::item_or;
 
 // The answers for one tweak: for labels of colour 0 and of colour 1.
 #[derive(Clone, Copy)]
@@ -21,6 +22,7 @@ pub struct AnswerTable<'a> {
     pub rows: &'a [Row],
 }
 
+// An answer of zeros.
 const BLANK: Answer = Answer {
     word: 0,
     pair: ControlPair {
@@ -35,11 +37,11 @@ pub impl Hash for AnswerTable<'_> as AnswerTableHash {
     ghost asks = { λ before _ _ after. at (after .rows) ≡ at (before .rows) };
 
     fn query(&mut self, label: (u64, u64), tweak: u32) -> Answer {
-        let tweak = tweak as usize;
-        if tweak >= self.rows.len() {
-            return BLANK;
-        }
-        let row = self.rows[tweak];
+        let blank = Row {
+            zero: BLANK,
+            one: BLANK,
+        };
+        let row = item_or(self.rows, tweak as usize, blank);
         if colour(label) { row.one } else { row.zero }
     }
 }

@@ -5,12 +5,9 @@ use mathlib.Core.List.{List, [], _∷_, _++_}
 use lib.Count.{ones}
 use lib.Dec.{eqb, ltb}
 use lib.ListN.{getD, length}
+use Rattle.bytes.specs.Little.{shortAt}
 use Rattle.wires.specs.declared.Class.{Class}
 use Rattle.wires.specs.declared.Class.the-variants.{Free, Even, Odd, Hidden}
-
--- The number of 16 bits at place p, its low byte first.
-abbrev pub short : List ℕ → ℕ → ℕ
-short s p = getD s p 0 + 256 * getD s (p + 1) 0
 
 -- Bit k of a number.
 abbrev pub bit : ℕ → ℕ → Bool
@@ -31,10 +28,10 @@ kindAt c w = getD (c .arrays) w 0
 
 -- The two wires of a pair, 16 bits each.
 abbrev pub firstAt : Wiring → ℕ → ℕ
-firstAt c w = short (c .arrays) (c .wires + 4 * w)
+firstAt c w = shortAt (c .arrays) (c .wires + 4 * w)
 
 abbrev pub secondAt : Wiring → ℕ → ℕ
-secondAt c w = short (c .arrays) (c .wires + 4 * w + 2)
+secondAt c w = shortAt (c .arrays) (c .wires + 4 * w + 2)
 
 -- The inputs come first; all other wires are gates.
 abbrev pub isInput : Wiring → ℕ → Bool

@@ -1,10 +1,12 @@
 // The wires of a circuit, read from the arrays of a table or a form. Every reader answers for every wire and all bytes.
 
 ghost use mathlib.Core.Path.{_≡_};
-ghost use Prim.Native.Nat.{ℕ, _+_, _*_, _%_, _^_, _<_};
-ghost use lib.ListN.{getD, length};
-ghost use Rattle.wires.specs.Wires.{short, truth, allowed, kindAt, sideAt, classAt, classOf, truthAt, firstAt, secondAt, isInput, isOutput, isGarbled, outputWires, garbledWires};
+ghost use Prim.Native.Nat.{_%_};
+ghost use lib.ListN.{length};
+ghost use Rattle.wires.specs.Wires.{truth, allowed, kindAt, sideAt, classAt, classOf, truthAt, firstAt, secondAt, isInput, isOutput, isGarbled, outputWires, garbledWires};
 ghost use Rattle.wires.specs.Read.{wiringOf};
+use bytes::item_or;
+use bytes::short_at;
 
 // How a gate is garbled: not at all, by the parity of its truth table, or with the parity kept secret.
 #[derive(Clone, Copy, PartialEq, Eq, Debug)]
@@ -54,21 +56,6 @@ pub struct Circuit<'a> {
     pub wires: u16,
     pub inputs: u16,
     pub arrays: &'a [u8],
-}
-
-// What stands at a place, or the default past the end.
-pub fn item_or<T: Copy>(items: &[T], at: usize, default: T) -> T
-    ensures { λ r. ⌜ r ≡ getD (now (items .entry)) at default ⌝ }
-{
-    if at < items.len() { items[at] } else { default }
-}
-
-// The number of 16 bits at a place, its low byte first.
-fn short_at(bytes: &[u8], at: usize) -> u16
-    requires { ⌜ at < 2 ^ 32 ⌝ }
-    ensures { λ r. ⌜ r ≡ short (now (bytes .entry)) at ⌝ }
-{
-    u16::from(item_or(bytes, at, 0)) + 256 * u16::from(item_or(bytes, at + 1, 0))
 }
 
 impl Circuit<'_> {
@@ -125,7 +112,7 @@ impl Circuit<'_> {
     pub fn pair(&self, wire: u16) -> (u16, u16)
         ensures { λ r. ⌜ r ≡ (firstAt (wiringOf (now (self .entry))) wire, secondAt (wiringOf (now (self .entry))) wire) ⌝ }
     {
-        let at = usize::from(self.wires) + 4 * usize::from(wire);
+        let at = u32::from(self.wires) + 4 * u32::from(wire);
         (short_at(self.arrays, at), short_at(self.arrays, at + 2))
     }
 

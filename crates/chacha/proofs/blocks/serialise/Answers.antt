@@ -6,9 +6,9 @@ use native.Mathlib.Omega.{arith}
 use lib.ListN.{length, take, getD, length-set}
 use lib.Seq.{take-all}
 use Rattle.std.proofs.shelf.Lists.{take-more}
-use Rattle.label.specs.Bytes.{bytesOf}
+use Rattle.bytes.specs.Little.{bytesOf}
 use Rattle.chacha.specs.Bytes.{serialised}
-use Rattle.label.proofs.Little.{bytesOf-four}
+use Rattle.bytes.proofs.LittleLaws.{bytesOf-four}
 use Rattle.chacha.proofs.Fronts.{front-set-four, serialised-push}
 use Rattle.chacha.proofs.blocks.serialise.Needs as need
 

@@ -3,9 +3,9 @@ use Prim.Native.Nat.{ℕ, _+_, _<_}
 use mathlib.Core.Path.{_≡_, ap, _∙_}
 use native.Mathlib.Omega.{arith}
 use lib.ListN.{getD}
-use Rattle.label.specs.Bytes.{little, bytesOf}
+use Rattle.bytes.specs.Little.{little, bytesOf}
 use Rattle.chacha.specs.Bytes.{wordAt}
-use Rattle.label.proofs.Little.{bytesOf-little}
+use Rattle.bytes.proofs.LittleLaws.{bytesOf-little}
 use Rattle.chacha.proofs.Fronts.{fourAt-bytes}
 use Rattle.chacha.proofs.blocks.word.Needs as need
 

@@ -3,8 +3,8 @@ use Prim.Native.Nat.{_+_, _*_, _/_, _%_, _^_}
 use mathlib.Core.Path.{_≡_}
 use native.Mathlib.Omega.{arith}
 use Rattle.std.proofs.shelf.Bits.{field-of}
-use Rattle.label.specs.Bytes.{bytesOf}
-use Rattle.label.proofs.Little.{little-pair}
+use Rattle.bytes.specs.Little.{bytesOf}
+use Rattle.bytes.proofs.LittleLaws.{little-pair}
 use Rattle.chacha.proofs.hash.read_row.Needs as need
 
 pub returns : need.returns

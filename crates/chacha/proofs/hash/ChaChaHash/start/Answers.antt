@@ -1,10 +1,10 @@
 -- The words of the block's key and nonce are the prepared words and the label's halves.
 use native.Mathlib.Omega.{arith}
-use Rattle.label.specs.Bytes.{bytesOf}
+use Rattle.bytes.specs.Little.{bytesOf}
 use Rattle.chacha.specs.Bytes.{fourAt}
 use Rattle.chacha.specs.Block.{initialState}
 use Rattle.chacha.specs.Hash.{materialOf}
-use Rattle.label.proofs.Little.{little-bytesOf, little-back, little-high}
+use Rattle.bytes.proofs.LittleLaws.{little-bytesOf, little-back, little-high}
 use Rattle.chacha.proofs.hash.ChaChaHash.start.Needs as need
 
 pub returns : need.returns

@@ -6,7 +6,7 @@ use native.Mathlib.Nat.{mul-assoc, mul-left-comm, pow-suc, mod-one, mod-eq-of-lt
 use native.Mathlib.Omega.{arith}
 use lib.Arith.{mod-mul}
 use lib.ListN.{length}
-use Rattle.label.specs.Bytes.{little, bytesOf}
+use Rattle.bytes.specs.Little.{little, bytesOf}
 
 -- a power of 256 is above 0
 pos : (n : ℕ) → 0 < 256 ^ n
