@@ -16,6 +16,7 @@ use crate::schedule::expanded;
 use label::Answer;
 use label::ControlPair;
 use label::Hash;
+use label::Label;
 use refusal::Buffer;
 use refusal::Refusal;
 
@@ -93,7 +94,7 @@ impl AesHash {
     }
 
     // The word and the control pair for a label and a tweak.
-    pub fn answer(&self, label: (u64, u64), tweak: u32) -> Answer
+    pub fn answer(&self, label: Label, tweak: u32) -> Answer
         ensures { λ r. ⌜ r ≡ answerOf (materialOf (now (self .entry))) label tweak ⌝ }
     {
         let left = label.0 ^ self.u1.times(tweak);
@@ -118,7 +119,7 @@ pub impl Hash for AesHash as AesHashHash {
 
     ghost asks = { λ before _ _ after. materialOf after ≡ materialOf before };
 
-    fn query(&mut self, label: (u64, u64), tweak: u32) -> Answer {
+    fn query(&mut self, label: Label, tweak: u32) -> Answer {
         self.answer(label, tweak)
     }
 }

@@ -19,6 +19,7 @@ use crate::rounds::twenty_rounds;
 use label::Answer;
 use label::ControlPair;
 use label::Hash;
+use label::Label;
 use refusal::Buffer;
 use refusal::Refusal;
 
@@ -77,7 +78,7 @@ impl ChaChaHash {
     }
 
     // The state that the block of a label and a tweak starts from.
-    fn start(self, label: (u64, u64), tweak: u32) -> State
+    fn start(self, label: Label, tweak: u32) -> State
         ensures { λ r. ⌜ words r ≡ initialState (labelKey (materialOf self) label) tweak (labelNonce (materialOf self)) ⌝ }
     {
         let (left, right) = label;
@@ -90,7 +91,7 @@ impl ChaChaHash {
     }
 
     // The hash of a label under a tweak.
-    pub fn answer(&self, label: (u64, u64), tweak: u32) -> Answer
+    pub fn answer(&self, label: Label, tweak: u32) -> Answer
         ensures { λ r. ⌜ r ≡ answerOf (materialOf (now (self .entry))) label tweak ⌝ }
     {
         let start = self.start(label, tweak);
@@ -105,7 +106,7 @@ pub impl Hash for ChaChaHash as ChaChaHashHash {
 
     ghost asks = { λ before _ _ after. after ≡ before };
 
-    fn query(&mut self, label: (u64, u64), tweak: u32) -> Answer {
+    fn query(&mut self, label: Label, tweak: u32) -> Answer {
         self.answer(label, tweak)
     }
 }

@@ -14,6 +14,7 @@ use label::Answer;
 use label::ControlPair;
 use label::HalfXor;
 use label::Hash;
+use label::Label;
 use label::LabelXor;
 use label::PairXor;
 use label::Xor;
@@ -58,12 +59,12 @@ fn view_from(
 fn output_label(
     ciphertexts: [u64; 3],
     view: View,
-    first: (u64, u64),
-    second: (u64, u64),
+    first: Label,
+    second: Label,
     answers: [Answer; 3],
     i: bool,
     j: bool,
-) -> (u64, u64)
+) -> Label
     ensures { λ r. ⌜ r ≡ evaluated halves (threeIn halves ciphertexts) view first second (threeWords answers) i j ⌝ }
 {
     let [third, fourth, fifth] = ciphertexts;
@@ -79,8 +80,8 @@ fn output_label(
 // The three answers that the server meets, in the order asked.
 fn ask_three<H: Hash>(
     hash: &mut H,
-    first: (u64, u64),
-    second: (u64, u64),
+    first: Label,
+    second: Label,
     tweak: u32,
 ) -> [Answer; 3]
     ensures value { λ r. ⌜ r ≡ answersTo (function (now (hash .entry))) (threeQuestions first second tweak) ⌝ }
@@ -100,10 +101,10 @@ pub fn evaluate_gate<H: Hash>(
     parity: Parity,
     ciphertexts: [u64; 3],
     controls: [ControlPair; 5],
-    first: (u64, u64),
-    second: (u64, u64),
+    first: Label,
+    second: Label,
     tweak: u32,
-) -> (u64, u64)
+) -> Label
     ensures value { λ r. ⌜ r ≡ evaluatedGate (function (now (hash .entry))) parity ciphertexts controls first second tweak ⌝ }
     ensures kept { λ _. ⌜ function (now (hash .exit)) ≡ function (now (hash .entry)) ⌝ }
     ensures asked { λ _. ⌜ Asked asks (threeQuestions first second tweak) (now (hash .entry)) (now (hash .exit)) ⌝ }
@@ -115,7 +116,7 @@ pub fn evaluate_gate<H: Hash>(
 }
 
 // The label of a free gate's output: the sum of its pair's, with no question asked.
-pub fn free_gate(first: (u64, u64), second: (u64, u64)) -> (u64, u64)
+pub fn free_gate(first: Label, second: Label) -> Label
     ensures { λ r. ⌜ r ≡ sumOf halves first second ⌝ }
 {
     first.xor(second)

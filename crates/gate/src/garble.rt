@@ -20,6 +20,7 @@ use label::Answer;
 use label::ControlPair;
 use label::HalfXor;
 use label::Hash;
+use label::Label;
 use label::LabelXor;
 use label::PairXor;
 use label::Xor;
@@ -28,13 +29,13 @@ use label::colour;
 // What garbling a gate gives: its false label, three ciphertexts, five control pairs.
 #[derive(Clone, Copy)]
 pub struct GarbledGate {
-    pub label: (u64, u64),
+    pub label: Label,
     pub ciphertexts: [u64; 3],
     pub controls: [ControlPair; 5],
 }
 
 // A label with the offset added where the bit is set.
-pub fn shift(delta: (u64, u64), label: (u64, u64), bit: bool) -> (u64, u64)
+pub fn shift(delta: Label, label: Label, bit: bool) -> Label
     ensures { λ r. ⌜ r ≡ shifted halves delta label bit ⌝ }
 {
     (
@@ -60,7 +61,7 @@ fn pairs_of(answers: [Answer; 6]) -> [ControlPair; 6]
 }
 
 // The value of a view on two labels, left and right.
-pub fn view_value(view: View, x: (u64, u64), y: (u64, u64)) -> (u64, u64)
+pub fn view_value(view: View, x: Label, y: Label) -> Label
     ensures { λ r. ⌜ r ≡ (viewLeft halves view x y, viewRight halves view x y) ⌝ }
 {
     let left = x.0.xor(x.1).xor(y.0).times(view.alpha);
@@ -74,7 +75,7 @@ pub fn view_value(view: View, x: (u64, u64), y: (u64, u64)) -> (u64, u64)
 }
 
 // What garbling adds to the answers at one pair of colours: the view's value, and the offset where the truth is 1.
-fn added_at(view: View, truth: bool, delta: (u64, u64), x: (u64, u64), y: (u64, u64)) -> (u64, u64)
+fn added_at(view: View, truth: bool, delta: Label, x: Label, y: Label) -> Label
     ensures { λ r. ⌜ r ≡ (bitXor (viewLeft halves view x y) (cond truth (delta .0) 0), bitXor (viewRight halves view x y) (cond truth (delta .1) 0)) ⌝ }
 {
     let (left, right) = view_value(view, x, y);
@@ -104,9 +105,9 @@ fn coded(parity: Parity, view: View) -> (ControlPair, ControlPair)
 fn half_numbers(
     views: [View; 4],
     truth: Truth,
-    delta: (u64, u64),
-    a: (u64, u64),
-    b: (u64, u64),
+    delta: Label,
+    a: Label,
+    b: Label,
     words: [u64; 6],
 ) -> [u64; 5]
     ensures { λ r. ⌜ ((c : Parity) (d : Dice) → views ≡ viewsOf c truth d → r ≡ listed (garbled halves c truth d delta a b (sixIn halves words))) ⌝ }
@@ -167,9 +168,9 @@ fn assemble(
     parity: Parity,
     truth: Truth,
     dice: Dice,
-    delta: (u64, u64),
-    a: (u64, u64),
-    b: (u64, u64),
+    delta: Label,
+    a: Label,
+    b: Label,
     answers: [Answer; 6],
 ) -> GarbledGate
     ensures { λ r. ⌜ r ≡ assembled parity truth dice delta a b answers ⌝ }
@@ -194,9 +195,9 @@ fn assemble(
 // The six answers of a gate, from its labels of colour 0, in the order asked.
 fn ask_six<H: Hash>(
     hash: &mut H,
-    delta: (u64, u64),
-    a: (u64, u64),
-    b: (u64, u64),
+    delta: Label,
+    a: Label,
+    b: Label,
     tweak: u32,
 ) -> [Answer; 6]
     ensures value { λ r. ⌜ r ≡ answersTo (function (now (hash .entry))) (sixQuestions delta a b tweak) ⌝ }
@@ -228,9 +229,9 @@ pub fn garble_gate<H: Hash>(
     parity: Parity,
     truth_table: u8,
     dice: u8,
-    delta: (u64, u64),
-    first: (u64, u64),
-    second: (u64, u64),
+    delta: Label,
+    first: Label,
+    second: Label,
     tweak: u32,
 ) -> GarbledGate
     ensures value { λ r. ⌜ r ≡ garbledGate (function (now (hash .entry))) parity «truth_table» dice delta first second tweak ⌝ }

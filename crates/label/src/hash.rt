@@ -3,6 +3,7 @@
 ghost use mathlib.Core.Path.{_≡_};
 ghost use Prim.Native.Nat.{ℕ};
 ghost use Rattle.label.specs.declared.hash.Answer.{Answer};
+use crate::labels::Label;
 use crate::xor::ControlPair;
 use crate::xor::ControlPairDebug;
 use crate::xor::ControlPairPartialEq;
@@ -22,7 +23,7 @@ pub trait Hash {
 
     ghost asks: { Self → ℕ × ℕ → ℕ → Self → Type 0 };
 
-    fn query(&mut self, label: (u64, u64), tweak: u32) -> Answer
+    fn query(&mut self, label: Label, tweak: u32) -> Answer
         ensures value { λ r. ⌜ r ≡ function (now (self .entry)) label tweak ⌝ }
         ensures kept { λ _. ⌜ function (now (self .exit)) ≡ function (now (self .entry)) ⌝ }
         ensures asked { λ _. ⌜ asks (now (self .entry)) label tweak (now (self .exit)) ⌝ };

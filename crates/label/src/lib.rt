@@ -9,7 +9,7 @@ pub use hash::Answer;
 pub use hash::Hash;
 pub use labels::Label;
 pub use labels::colour;
-pub use labels::from_bytes;
+pub use labels::label_at;
 pub use labels::to_bytes;
 pub use rows::AnswerTable;
 pub use rows::AnswerTableHash;

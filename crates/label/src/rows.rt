@@ -5,6 +5,7 @@ ghost use denote.Ref.{now as at};
 ghost use Rattle.label.specs.Rows.{tableFunction};
 use crate::hash::Answer;
 use crate::hash::Hash;
+use crate::labels::Label;
 use crate::labels::colour;
 use crate::xor::ControlPair;
 use bytes::item_or;
@@ -36,7 +37,7 @@ pub impl Hash for AnswerTable<'_> as AnswerTableHash {
 
     ghost asks = { λ before _ _ after. at (after .rows) ≡ at (before .rows) };
 
-    fn query(&mut self, label: (u64, u64), tweak: u32) -> Answer {
+    fn query(&mut self, label: Label, tweak: u32) -> Answer {
         let blank = Row {
             zero: BLANK,
             one: BLANK,
