@@ -78,12 +78,7 @@ fn output_label(
 }
 
 // The three answers that the server meets, in the order asked.
-fn ask_three<H: Hash>(
-    hash: &mut H,
-    first: Label,
-    second: Label,
-    tweak: u32,
-) -> [Answer; 3]
+fn ask_three<H: Hash>(hash: &mut H, first: Label, second: Label, tweak: u32) -> [Answer; 3]
     ensures value { λ r. ⌜ r ≡ answersTo (function (now (hash .entry))) (threeQuestions first second tweak) ⌝ }
     ensures kept { λ _. ⌜ function (now (hash .exit)) ≡ function (now (hash .entry)) ⌝ }
     ensures asked { λ _. ⌜ Asked asks (threeQuestions first second tweak) (now (hash .entry)) (now (hash .exit)) ⌝ }

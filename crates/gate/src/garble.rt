@@ -193,13 +193,7 @@ fn assemble(
 }
 
 // The six answers of a gate, from its labels of colour 0, in the order asked.
-fn ask_six<H: Hash>(
-    hash: &mut H,
-    delta: Label,
-    a: Label,
-    b: Label,
-    tweak: u32,
-) -> [Answer; 6]
+fn ask_six<H: Hash>(hash: &mut H, delta: Label, a: Label, b: Label, tweak: u32) -> [Answer; 6]
     ensures value { λ r. ⌜ r ≡ answersTo (function (now (hash .entry))) (sixQuestions delta a b tweak) ⌝ }
     ensures kept { λ _. ⌜ function (now (hash .exit)) ≡ function (now (hash .entry)) ⌝ }
     ensures asked { λ _. ⌜ Asked asks (sixQuestions delta a b tweak) (now (hash .entry)) (now (hash .exit)) ⌝ }

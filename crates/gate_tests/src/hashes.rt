@@ -62,7 +62,10 @@ fn labels_in_bytes() -> Result<(), Fail> {
         bytes,
         [1, 2, 3, 4, 5, 6, 7, 8, 9, 10, 11, 12, 13, 14, 15, 16],
     )?;
-    check_eq(label_at(&bytes, 0), (0x0807060504030201, 0x100f0e0d0c0b0a09))?;
+    check_eq(
+        label_at(&bytes, 0),
+        (0x0807060504030201, 0x100f0e0d0c0b0a09),
+    )?;
     check_eq(label_at(&bytes, 8), (0x100f0e0d0c0b0a09, 0))
 }
 

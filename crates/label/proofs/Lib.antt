@@ -1,3 +1,4 @@
 pub mod Solve
 pub mod Every
 pub mod Groups
+pub mod Chains

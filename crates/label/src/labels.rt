@@ -2,7 +2,6 @@
 
 ghost use mathlib.Core.Path.{_≡_};
 ghost use Rattle.label.specs.Labels.{colourOf, labelBytes, labelAt};
-
 use bytes::word_at;
 
 // The left and the right half.

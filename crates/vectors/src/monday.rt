@@ -1,14 +1,13 @@
 // The gate of the Monday round, an AND of one wire a side: garbled once, evaluated under all four pairs of answers.
 
 use gate::Dice;
-use gate::GarbledGate;
 use gate::Parity;
 use gate::Truth;
 use gate::View;
 use gate::draw_views;
-use gate::evaluate_gate;
 use gate::garble_gate;
 use gate::shift;
+use gate_laws::play_gate;
 use label::Answer;
 use label::AnswerTable;
 use label::AnswerTableHash;
@@ -90,24 +89,10 @@ fn view_at(i: bool, j: bool) -> View {
 }
 
 // One pair of answers: the labels met, their colours, the view there, the output label, and the bit that it stands for.
-fn play(
-    rt: &LibcRuntime,
-    hash: &mut AnswerTable,
-    gate: &GarbledGate,
-    u: bool,
-    v: bool,
-) -> io::Result<()> {
+fn play(rt: &LibcRuntime, hash: &mut AnswerTable, u: bool, v: bool) -> io::Result<()> {
+    let (gate, output) = play_gate(hash, Parity::Odd, 8, 0, DELTA, FIRST, SECOND, TWEAK, u, v);
     let first = shift(DELTA, FIRST, u);
     let second = shift(DELTA, SECOND, v);
-    let output = evaluate_gate(
-        hash,
-        Parity::Odd,
-        gate.ciphertexts,
-        gate.controls,
-        first,
-        second,
-        TWEAK,
-    );
     let view = bits(view_at(colour(first), colour(second)));
     let (i, j) = (u8::from(colour(first)), u8::from(colour(second)));
     let result = if output == gate.label {
@@ -135,8 +120,8 @@ pub(crate) fn run_monday(rt: &LibcRuntime) -> io::Result<()> {
         rt,
         "Monday gate: false label {label:?}, ciphertexts {ciphertexts:?}, control word {word}"
     )?;
-    play(rt, &mut hash, &gate, false, false)?;
-    play(rt, &mut hash, &gate, false, true)?;
-    play(rt, &mut hash, &gate, true, false)?;
-    play(rt, &mut hash, &gate, true, true)
+    for (u, v) in [(false, false), (false, true), (true, false), (true, true)] {
+        play(rt, &mut hash, u, v)?;
+    }
+    Ok(())
 }

@@ -1,0 +1,9 @@
+pub mod GateSpace
+pub mod GateLaw
+pub mod ControlLaw
+pub mod Computes
+pub mod Many
+pub mod GateBlind
+pub mod GateSeen
+pub mod Matrices
+pub mod Monday
