@@ -3,8 +3,9 @@
 ghost use mathlib.Core.Path.{_≡_};
 ghost use lib.Lanes.{numberL};
 ghost use lib.ListN.{length};
-ghost use Rattle.std.specs.Results.{Cases};
-ghost use Rattle.refusal.specs.Told.{told};
+ghost use Rattle.std.specs.Vec.{made};
+ghost use Rattle.refusal.specs.Told.{Finds, lengthFault};
+ghost use Rattle.refusal.specs.declared.Buffer.the-variants.{Key};
 ghost use Rattle.aes.specs.Fips197.{Cipher, KeyExpansion};
 ghost use Rattle.aes.specs.Hash.{materialIn, bytesOfHalves, answerOf};
 ghost use Rattle.aes.specs.Keys.{materialOf, scheduleWord};
@@ -66,7 +67,8 @@ fn block_of_halves(left: u64, right: u64) -> [u8; 16]
 impl AesHash {
     // A hash under the key material in 32 bytes: an AES-128 key, and two numbers of GF(2^64), little-endian.
     pub fn new(key: &[u8]) -> Result<AesHash, Refusal>
-        ensures { λ r. ⌜ Cases r (λ h. (length (now (key .entry)) ≡ 32) × (materialOf h ≡ materialIn (now (key .entry)))) (λ e. (length (now (key .entry)) ≡ 32 → ⊥) × (told e ≡ (10, 6))) ⌝ }
+        ensures fault { λ r. ⌜ Finds r (lengthFault 32 Key (length (now (key .entry)))) ⌝ }
+        ensures holds { λ r. ⌜ made r (λ h. materialOf h ≡ materialIn (now (key .entry))) ⌝ }
     {
         if key.len() != 32 {
             return Err(Refusal::WrongLength {

@@ -8,8 +8,9 @@ ghost use Rattle.chacha.specs.Bytes.{serialised};
 ghost use Rattle.chacha.specs.Block.{initialState};
 ghost use Rattle.chacha.specs.Hash.{labelKey, labelNonce, readBlock, answerOf, materialOf};
 ghost use Rattle.chacha.specs.State.{row, words};
-ghost use Rattle.std.specs.Results.{Cases};
-ghost use Rattle.refusal.specs.Told.{told};
+ghost use Rattle.std.specs.Vec.{made};
+ghost use Rattle.refusal.specs.Told.{Finds, lengthFault};
+ghost use Rattle.refusal.specs.declared.Buffer.the-variants.{Key};
 use crate::blocks::CONSTANTS;
 use crate::blocks::added_rows;
 use crate::blocks::word;
@@ -64,7 +65,8 @@ fn read_row(first: Row) -> Answer
 impl ChaChaHash {
     // The hash under a key material of 28 bytes.
     pub fn new(key: &[u8]) -> Result<ChaChaHash, Refusal>
-        ensures { λ r. ⌜ Cases r (λ h. (length (now (key .entry)) ≡ 28) × (materialOf h ≡ now (key .entry))) (λ e. (length (now (key .entry)) ≡ 28 → ⊥) × (told e ≡ (10, 6))) ⌝ }
+        ensures fault { λ r. ⌜ Finds r (lengthFault 28 Key (length (now (key .entry)))) ⌝ }
+        ensures holds { λ r. ⌜ made r (λ h. materialOf h ≡ now (key .entry)) ⌝ }
     {
         if key.len() != 28 {
             return Err(Refusal::WrongLength {

@@ -8,10 +8,10 @@ use native.Mathlib.Omega.{arith}
 use lib.Dec.{eqb, leb, ltb}
 use lib.ListN.{length}
 use Rattle.std.specs.Orderings.{Decides}
-use Rattle.std.specs.Results.{Cases, isOk}
+use Rattle.std.specs.Results.{isOk}
 use Rattle.std.specs.declared.result.Result.{Result}
 use Rattle.std.specs.declared.result.Result.the-variants.{Ok, Err}
-use Rattle.refusal.specs.Told.{told}
+use Rattle.refusal.specs.Told.{Finds}
 use Rattle.refusal.specs.declared.Refusal.{Refusal}
 use Rattle.std.specs.declared.option.Option.{Option}
 use Rattle.std.specs.declared.option.Option.the-variants.{Some, None}
@@ -158,8 +158,9 @@ accepted-no-fault s h =
     refl))))
 
 -- So a check that finds the first fault passes exactly the accepted tables.
-pub passes-exactly : {T : Type 0} (P : T → Type 0) (s : List ℕ) (r : Result T Refusal)
-    → Cases r (λ t. (tableFault s ≡ None) × P t) (λ e. tableFault s ≡ Some (told e)) → Decides (isOk r) (Accepted s)
-passes-exactly P s (Ok t) h = ((λ _. no-fault-accepted s (h .0)), λ _. refl)
-passes-exactly P s (Err e) h =
-    ((λ passed. absurd (false≢true passed)), λ ok. let none = accepted-no-fault s ok in absurd (let z : _≡_ {A = ℕ} 0 1 = cc in omega arith))
+pub passes-exactly : {T : Type 0} (s : List ℕ) (r : Result T Refusal) → Finds r (tableFault s) → Decides (isOk r) (Accepted s)
+passes-exactly s (Ok t) none = ((λ _. no-fault-accepted s none), λ _. refl)
+passes-exactly s (Err e) fault = (
+  (λ passed. absurd (false≢true passed)),
+  λ ok. let none = accepted-no-fault s ok in absurd (let z : _≡_ {A = ℕ} 0 1 = cc in omega arith),
+)

@@ -1,12 +1,12 @@
 // The check of a circuit table: from any bytes to a checked table, or the first fault.
 
 ghost use mathlib.Core.Path.{_≡_};
-ghost use Prim.Native.Nat.{ℕ, _+_, _*_, _≤_, _<_};
-ghost use lib.ListN.{length, drop};
+ghost use Prim.Native.Nat.{_≤_, _<_};
+ghost use lib.ListN.{length};
 ghost use Rattle.std.specs.Orderings.{Decides};
 ghost use Rattle.std.specs.Results.{Cases, isOk};
-ghost use Rattle.std.specs.declared.option.Option.the-variants.{Some, None};
-ghost use Rattle.refusal.specs.Told.{told};
+ghost use Rattle.std.specs.Vec.{made};
+ghost use Rattle.refusal.specs.Told.{Finds, told};
 ghost use Rattle.wires.specs.Wires.{garbledWires, outputWires};
 ghost use Rattle.circuit.specs.Check.{sizesFault, outputsFault, inputFault, gateFault, wireFault, lowestFault, tableFault, tableWiring};
 ghost use Rattle.circuit.specs.Accepted.{Accepted};
@@ -60,7 +60,7 @@ fn split_sizes(bytes: &[u8]) -> Result<Circuit<'_>, Refusal>
 
 // The number of outputs lies within the limits.
 fn check_outputs(outputs: u16) -> Result<(), Refusal>
-    ensures { λ r. ⌜ Cases r (λ _. outputsFault outputs ≡ None) (λ e. outputsFault outputs ≡ Some (told e)) ⌝ }
+    ensures { λ r. ⌜ Finds r (outputsFault outputs) ⌝ }
 {
     if outputs < 1 || outputs > MOST_OUTPUTS {
         return Err(Refusal::OutputCount);
@@ -70,7 +70,7 @@ fn check_outputs(outputs: u16) -> Result<(), Refusal>
 
 // The numbers of wires and of inputs lie within the limits.
 pub fn check_sizes(wires: u16, inputs: u16) -> Result<(), Refusal>
-    ensures { λ r. ⌜ Cases r (λ _. sizesFault wires inputs ≡ None) (λ e. sizesFault wires inputs ≡ Some (told e)) ⌝ }
+    ensures { λ r. ⌜ Finds r (sizesFault wires inputs) ⌝ }
 {
     if wires < 1 || wires > MOST_WIRES {
         return Err(Refusal::WireCount);
@@ -83,7 +83,7 @@ pub fn check_sizes(wires: u16, inputs: u16) -> Result<(), Refusal>
 
 // An input has a side and no pair.
 fn check_input(circuit: &Circuit, wire: u16) -> Result<(), Refusal>
-    ensures { λ r. ⌜ Cases r (λ _. inputFault (wiringOf (now (circuit .entry))) wire ≡ None) (λ e. inputFault (wiringOf (now (circuit .entry))) wire ≡ Some (told e)) ⌝ }
+    ensures { λ r. ⌜ Finds r (inputFault (wiringOf (now (circuit .entry))) wire) ⌝ }
 {
     if circuit.side(wire) >= SIDES {
         return Err(Refusal::Kind {
@@ -101,7 +101,7 @@ fn check_input(circuit: &Circuit, wire: u16) -> Result<(), Refusal>
 
 // A gate reads lower wires and has a truth table that the rule allows to its class.
 fn check_gate(circuit: &Circuit, wire: u16, rule: TruthRule) -> Result<(), Refusal>
-    ensures { λ r. ⌜ Cases r (λ _. gateFault (ruleOf rule) (wiringOf (now (circuit .entry))) wire ≡ None) (λ e. gateFault (ruleOf rule) (wiringOf (now (circuit .entry))) wire ≡ Some (told e)) ⌝ }
+    ensures { λ r. ⌜ Finds r (gateFault (ruleOf rule) (wiringOf (now (circuit .entry))) wire) ⌝ }
 {
     if circuit.kind(wire) / 64 % 2 == 1 {
         return Err(Refusal::Kind {
@@ -124,7 +124,7 @@ fn check_gate(circuit: &Circuit, wire: u16, rule: TruthRule) -> Result<(), Refus
 
 // The fault of one wire.
 fn check_wire(circuit: &Circuit, wire: u16, rule: TruthRule) -> Result<(), Refusal>
-    ensures { λ r. ⌜ Cases r (λ _. wireFault (ruleOf rule) (wiringOf (now (circuit .entry))) wire ≡ None) (λ e. wireFault (ruleOf rule) (wiringOf (now (circuit .entry))) wire ≡ Some (told e)) ⌝ }
+    ensures { λ r. ⌜ Finds r (wireFault (ruleOf rule) (wiringOf (now (circuit .entry))) wire) ⌝ }
 {
     if circuit.is_input(wire) {
         check_input(circuit, wire)
@@ -135,7 +135,7 @@ fn check_wire(circuit: &Circuit, wire: u16, rule: TruthRule) -> Result<(), Refus
 
 // Every wire is sound, or the fault of the lowest faulty one.
 pub fn check_wires(circuit: &Circuit, rule: TruthRule) -> Result<(), Refusal>
-    ensures { λ r. ⌜ Cases r (λ _. lowestFault (ruleOf rule) (wiringOf (now (circuit .entry))) (now (circuit .entry) .wires) ≡ None) (λ e. lowestFault (ruleOf rule) (wiringOf (now (circuit .entry))) (now (circuit .entry) .wires) ≡ Some (told e)) ⌝ }
+    ensures { λ r. ⌜ Finds r (lowestFault (ruleOf rule) (wiringOf (now (circuit .entry))) (now (circuit .entry) .wires)) ⌝ }
 {
     for wire in 0..circuit.wires {
         check_wire(circuit, wire, rule)?;
@@ -154,7 +154,8 @@ pub struct Table<'a> {
 impl<'a> Table<'a> {
     // The table in these bytes, or its first fault. It passes exactly when it meets every condition.
     pub fn check(bytes: &'a [u8]) -> Result<Table<'a>, Refusal>
-        ensures cases { λ r. ⌜ Cases r (λ t. (tableFault (now (bytes .entry)) ≡ None) × Holds (now (bytes .entry)) t) (λ e. tableFault (now (bytes .entry)) ≡ Some (told e)) ⌝ }
+        ensures fault { λ r. ⌜ Finds r (tableFault (now (bytes .entry))) ⌝ }
+        ensures holds { λ r. ⌜ made r (Holds (now (bytes .entry))) ⌝ }
         ensures exact { λ r. ⌜ Decides (isOk r) (Accepted (now (bytes .entry))) ⌝ }
     {
         Table::scan(bytes)
@@ -162,7 +163,8 @@ impl<'a> Table<'a> {
 
     // The steps of the check, each in its order.
     fn scan(bytes: &'a [u8]) -> Result<Table<'a>, Refusal>
-        ensures { λ r. ⌜ Cases r (λ t. (tableFault (now (bytes .entry)) ≡ None) × Holds (now (bytes .entry)) t) (λ e. tableFault (now (bytes .entry)) ≡ Some (told e)) ⌝ }
+        ensures fault { λ r. ⌜ Finds r (tableFault (now (bytes .entry))) ⌝ }
+        ensures holds { λ r. ⌜ made r (Holds (now (bytes .entry))) ⌝ }
     {
         let circuit = split_sizes(bytes)?;
         check_sizes(circuit.wires, circuit.inputs)?;

@@ -1,11 +1,10 @@
 // The plain circuit: the values of all wires on given input bits, and the outputs.
 
-ghost use mathlib.Core.Bool.{true, false};
+ghost use mathlib.Core.Bool.{true, false, cond};
 ghost use mathlib.Core.Path.{_≡_};
 ghost use lib.ListN.{length, getD, take};
-ghost use Rattle.std.specs.Results.{Cases, isOk};
-ghost use Rattle.std.specs.declared.option.Option.the-variants.{Some, None};
-ghost use Rattle.refusal.specs.Told.{told};
+ghost use Rattle.std.specs.Results.{isOk};
+ghost use Rattle.refusal.specs.Told.{Finds};
 ghost use Rattle.wires.specs.Read.{wiringOf};
 ghost use Rattle.wires.specs.Wires.{outputWires};
 ghost use Rattle.circuit.specs.Plain.{valueFrom, valuesOf, atOutputs, plainOutputs, plainFault, PlainRun};
@@ -71,7 +70,9 @@ pub fn run_plain(
     values: &mut [bool],
     outputs: &mut [bool],
 ) -> Result<(), Refusal>
-    ensures cases { λ r. ⌜ Cases r (λ _. (plainFault (wiringOf (now (circuit .entry))) (length (now (values .entry))) (length (now (outputs .entry))) ≡ None) × (now (values .exit) ≡ valuesOf (wiringOf (now (circuit .entry))) (now (inputs .entry))) × (now (outputs .exit) ≡ plainOutputs (wiringOf (now (circuit .entry))) (now (inputs .entry)))) (λ e. (plainFault (wiringOf (now (circuit .entry))) (length (now (values .entry))) (length (now (outputs .entry))) ≡ Some (told e)) × (now (values .exit) ≡ now (values .entry)) × (now (outputs .exit) ≡ now (outputs .entry))) ⌝ }
+    ensures fault { λ r. ⌜ Finds r (plainFault (wiringOf (now (circuit .entry))) (length (now (values .entry))) (length (now (outputs .entry)))) ⌝ }
+    ensures values { λ r. ⌜ now (values .exit) ≡ cond (isOk r) (valuesOf (wiringOf (now (circuit .entry))) (now (inputs .entry))) (now (values .entry)) ⌝ }
+    ensures outputs { λ r. ⌜ now (outputs .exit) ≡ cond (isOk r) (plainOutputs (wiringOf (now (circuit .entry))) (now (inputs .entry))) (now (outputs .entry)) ⌝ }
     ensures run { λ r. ⌜ (isOk r ≡ true → PlainRun (wiringOf (now (circuit .entry))) (now (inputs .entry)) (now (values .exit)) (now (outputs .exit))) ⌝ }
 {
     if values.len() != usize::from(circuit.wires) {

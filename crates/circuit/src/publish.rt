@@ -1,12 +1,11 @@
 // The public part of a circuit, as a form carries it: everything but the truth tables of its gates.
 
-ghost use mathlib.Core.Bool.{true};
+ghost use mathlib.Core.Bool.{true, cond};
 ghost use mathlib.Core.Path.{_≡_};
 ghost use Prim.Native.Nat.{_*_};
 ghost use lib.ListN.{length};
-ghost use Rattle.std.specs.Results.{Cases, isOk};
-ghost use Rattle.std.specs.declared.option.Option.the-variants.{Some, None};
-ghost use Rattle.refusal.specs.Told.{told};
+ghost use Rattle.std.specs.Results.{isOk};
+ghost use Rattle.refusal.specs.Told.{Finds};
 ghost use Rattle.wires.specs.Read.{wiringOf};
 ghost use Rattle.circuit.specs.Check.{tableWiring};
 ghost use Rattle.circuit.specs.Public.{publicKind, publicByte, publicArrays, publicTable, publicFault, PublicOf};
@@ -48,7 +47,8 @@ fn write_arrays(circuit: &Circuit, arrays: &mut [u8])
 
 // The public table, written into a buffer of a table's length.
 pub fn public_table(circuit: &Circuit, table: &mut [u8]) -> Result<(), Refusal>
-    ensures cases { λ r. ⌜ Cases r (λ _. (publicFault (wiringOf (now (circuit .entry))) (length (now (table .entry))) ≡ None) × (now (table .exit) ≡ publicTable (wiringOf (now (circuit .entry))))) (λ e. (publicFault (wiringOf (now (circuit .entry))) (length (now (table .entry))) ≡ Some (told e)) × (now (table .exit) ≡ now (table .entry))) ⌝ }
+    ensures fault { λ r. ⌜ Finds r (publicFault (wiringOf (now (circuit .entry))) (length (now (table .entry)))) ⌝ }
+    ensures table { λ r. ⌜ now (table .exit) ≡ cond (isOk r) (publicTable (wiringOf (now (circuit .entry)))) (now (table .entry)) ⌝ }
     ensures shows { λ r. ⌜ (isOk r ≡ true → PublicOf (wiringOf (now (circuit .entry))) (tableWiring (now (table .exit)))) ⌝ }
 {
     if table.len() != 4 + 5 * usize::from(circuit.wires) {

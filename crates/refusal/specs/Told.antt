@@ -1,5 +1,12 @@
 -- What each refusal tells: its number and its place. Every contract that refuses is pinned through this definition.
 use Prim.Native.Nat.{ℕ}
+use mathlib.Core.Bool.{cond}
+use mathlib.Core.Path.{_≡_}
+use lib.Dec.{eqb}
+use Rattle.std.specs.declared.option.Option.{Option}
+use Rattle.std.specs.declared.option.Option.the-variants.{Some, None}
+use Rattle.std.specs.declared.result.Result.{Result}
+use Rattle.std.specs.declared.result.Result.the-variants.{Ok, Err}
 use Rattle.refusal.specs.declared.Buffer.{Buffer}
 use Rattle.refusal.specs.declared.Buffer.the-variants.{Form, Store, Sheet, Work, Outputs, Key, OtherSheet}
 use Rattle.refusal.specs.declared.Refusal.{Refusal}
@@ -44,3 +51,12 @@ told (NoEntry w) = (35, w)
 told (EqualMarks w) = (36, w)
 told (LabelMissing w) = (37, w)
 told ScriptOrder = (38, 0)
+
+-- A call that looks for faults answers well exactly where there is none, and else refuses with the first: its number and place.
+abbrev pub Finds : {T : Type 0} → Result T Refusal → Option (ℕ × ℕ) → Type 0
+Finds (Ok done) fault = fault ≡ None
+Finds (Err e) fault = fault ≡ Some (told e)
+
+-- A buffer or key of another length than the one wanted.
+abbrev pub lengthFault : ℕ → Buffer → ℕ → Option (ℕ × ℕ)
+lengthFault wanted buffer len = cond (eqb len wanted) None (Some (10, placeOf buffer))

@@ -3,6 +3,7 @@ use mathlib.Core.Path.{_≡_, sym, ap, _∙_}
 use mathlib.Core.List.{List}
 use Prim.Native.Nat.{ℕ, _<_}
 use native.Mathlib.Omega.{arith}
+use borrow.Author.Needs.{needs}
 use lib.ListN.{length, getD, take, length-take}
 use Rattle.aes.specs.Columns.{stateOf}
 use Rattle.aes.specs.Fips197.{KeyExpansion}
@@ -27,4 +28,4 @@ returns c =
     let key = holds-key (c .args .key .now) (c .expanded-words .result) (c .expanded-words .ensures) (omega arith) (λ i. c .typed .key i .fits) in
     let first = c .new-u1 .ensures ∙ c .number-of .ensures in
     let second = c .new-u2 .ensures ∙ c .number-of-2 .ensures in
-    (omega arith, λ i. record { key = key i; u1 = first i; u2 = second i })
+    record { fault = search needs; holds = λ i. record { key = key i; u1 = first i; u2 = second i } }

@@ -11,6 +11,8 @@ returns c =
     let values = c .fill-values .ensures in
     let outputs = c .pick-outputs .ensures in
     record {
-      cases = (rooms-fit circuit _ _ (search needs) (search needs), values, outputs ∙ ap (atOutputs circuit) values);
+      fault = rooms-fit circuit _ _ (search needs) (search needs);
+      values = values;
+      outputs = outputs ∙ ap (atOutputs circuit) values;
       run = λ _. plain-run-of circuit (c .args .inputs .now) (c .fill-values .last .values) (c .pick-outputs .last .outputs) values outputs;
     }

@@ -19,6 +19,7 @@ returns c =
     four-and-rest (c .args .table .now) (c .write-arrays .last .arrays) _ _ _ _ (omega arith)
     ∙ (λ i. getD (n i) 0 0 ∷ getD (n i) 1 0 ∷ getD (m i) 0 0 ∷ getD (m i) 1 0 ∷ c .write-arrays .ensures i) in
     record {
-      cases = (search needs, written);
+      fault = search needs;
+      table = written;
       shows = λ _. subst (λ t. PublicOf circuit (tableWiring t)) (sym written) (public-of circuit (omega arith) (omega arith));
     }

@@ -2,6 +2,7 @@
 use mathlib.Core.Path.{_≡_, sym}
 use mathlib.Core.List.{[]}
 use native.Mathlib.Omega.{arith}
+use borrow.Author.Needs.{needs}
 use lib.ListN.{drop, drop-of-length-le}
 use Rattle.chacha.specs.Hash.{materialOf}
 use Rattle.chacha.proofs.Fronts.{word-drop}
@@ -18,4 +19,4 @@ returns c =
     let at12 = word-drop k 12 _ _ (c .word-4 .ensures .bytes) at16 in
     let at8 = word-drop k 8 _ _ (c .word-3 .ensures .bytes) at12 in
     let at4 = word-drop k 4 _ _ (c .word-2 .ensures .bytes) at8 in
-    (omega arith, word-drop k 0 _ _ (c .word .ensures .bytes) at4)
+    record { fault = search needs; holds = word-drop k 0 _ _ (c .word .ensures .bytes) at4 }

@@ -15,7 +15,10 @@ returns-in-Break-check-wires c =
     let circuit = wiringOf (c .in-Continue-circuit .circuit) in
     let past = past-length (c .args .bytes .now) circuit (split .0) (split .1) (c .in-Continue-check-sizes .ensures tt) (search needs) in
     rw (p .1, p .2)
-    (past ∙ ap (λ f. orElse f (outputsFault (length (outputWires circuit)))) (c .in-Break-check-wires .ensures tt))
+    record {
+      fault = past ∙ ap (λ f. orElse f (outputsFault (length (outputWires circuit)))) (c .in-Break-check-wires .ensures tt);
+      holds = tt;
+    }
 
 pub returns-in-Break-check-outputs : need.returns-in-Break-check-outputs
 returns-in-Break-check-outputs c =
@@ -24,5 +27,9 @@ returns-in-Break-check-outputs c =
     let circuit = wiringOf (c .in-Continue-circuit .circuit) in
     let past = past-length (c .args .bytes .now) circuit (split .0) (split .1) (c .in-Continue-check-sizes .ensures tt) (search needs) in
     rw (p .1, p .2)
-    (past ∙ ap (λ f. orElse f (outputsFault (length (outputWires circuit)))) (c .in-Continue-check-wires .ensures tt)
-    ∙ ap outputsFault (sym (c .count-outputs-outputs .ensures)) ∙ c .in-Break-check-outputs .ensures tt)
+    record {
+      fault =
+          past ∙ ap (λ f. orElse f (outputsFault (length (outputWires circuit)))) (c .in-Continue-check-wires .ensures tt)
+          ∙ ap outputsFault (sym (c .count-outputs-outputs .ensures)) ∙ c .in-Break-check-outputs .ensures tt;
+      holds = tt;
+    }
