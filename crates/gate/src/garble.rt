@@ -61,7 +61,7 @@ fn pairs_of(answers: [Answer; 6]) -> [ControlPair; 6]
 }
 
 // The value of a view on two labels, left and right.
-pub fn view_value(view: View, x: Label, y: Label) -> Label
+pub(crate) fn view_value(view: View, x: Label, y: Label) -> Label
     ensures { λ r. ⌜ r ≡ (viewLeft halves view x y, viewRight halves view x y) ⌝ }
 {
     let left = x.0.xor(x.1).xor(y.0).times(view.alpha);

@@ -7,7 +7,7 @@ ghost use Rattle.gate.specs.Numbers.{five, mixed, leftOf, rightOf, backLeft, b
 use label::Xor;
 
 // Five numbers, from the left and the right values.
-pub fn five_numbers<T: Xor>(left: [T; 4], right: [T; 4]) -> [T; 5]
+fn five_numbers<T: Xor>(left: [T; 4], right: [T; 4]) -> [T; 5]
     ensures { λ r. ⌜ r ≡ listed (five (group plus nought) (valueIn (group plus nought) left) (valueIn (group plus nought) right)) ⌝ }
 {
     let [l00, l01, l10, l11] = left;

@@ -2,7 +2,7 @@
 
 ghost use mathlib.Core.Path.{_≡_};
 ghost use Rattle.label.specs.Sums.{_⊻_};
-ghost use Rattle.gate.specs.Views.{byColours, truthAt, parityOf, diceOf, ifHidden, aOf, bOf, alphaShift, betaShift, cornerOf, viewAt, viewsOf};
+ghost use Rattle.gate.specs.Views.{byColours, parityOf, diceOf, ifHidden, aOf, bOf, alphaShift, betaShift, cornerOf, viewAt, viewsOf};
 use wires::look_up;
 
 // What is public of the truth table of a garbled gate: whether the number of its ones is even or odd, or not even that.
@@ -53,18 +53,6 @@ impl Truth {
         }
     }
 
-    // The truth value at two colours.
-    pub fn at(self, i: bool, j: bool) -> bool
-        ensures { λ r. ⌜ r ≡ truthAt self i j ⌝ }
-    {
-        match (i, j) {
-            (false, false) => self.t00,
-            (false, true) => self.t01,
-            (true, false) => self.t10,
-            (true, true) => self.t11,
-        }
-    }
-
     fn parity(self) -> bool
         ensures { λ r. ⌜ r ≡ parityOf self ⌝ }
     {
@@ -88,7 +76,7 @@ impl Dice {
 
 impl Parity {
     // A bit that counts in hidden gates only.
-    pub fn if_hidden(self, bit: bool) -> bool
+    pub(crate) fn if_hidden(self, bit: bool) -> bool
         ensures { λ r. ⌜ r ≡ ifHidden self bit ⌝ }
     {
         match self {
