@@ -1,4 +1,5 @@
 // AES-128 encryption by FIPS 197, and the hash of wire labels that is built on it.
+#![tactic(auto)]
 
 ghost use Rattle.std.specs.Prelude.{◌≡◌};
 ghost use Rattle.aes.specs.Columns.{state_of};

@@ -1,4 +1,5 @@
 // The ChaCha20 block function of RFC 8439, and a hash of labels built on it.
+#![tactic(auto)]
 
 mod blocks;
 mod hash;

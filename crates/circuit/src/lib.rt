@@ -1,4 +1,5 @@
 // Circuit tables: checked, run in the clear, and stripped to their public part.
+#![tactic(auto)]
 
 mod check;
 mod plain;

@@ -6,8 +6,8 @@ ghost use Rattle.wires.specs.Read.{wiring_of};
 ghost use Rattle.wires.specs.Wires.{output_wires};
 ghost use Rattle.circuit.specs.Plain.{value_from, values_of, at_outputs, plain_outputs, plain_fault, PlainRun};
 
-use slices::item_or;
 use refusal::{Buffer, Refusal};
+use slices::item_or;
 use wires::{Circuit, look_up};
 
 // The bit at a place among the first bits, false past them.

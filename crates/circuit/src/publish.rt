@@ -6,8 +6,8 @@ ghost use Rattle.wires.specs.Read.{wiring_of};
 ghost use Rattle.circuit.specs.Check.{table_wiring};
 ghost use Rattle.circuit.specs.Public.{public_kind, public_byte, public_first, public_arrays, public_table, public_fault, PublicOf};
 
-use slices::item_or;
 use refusal::Refusal;
+use slices::item_or;
 use wires::Circuit;
 
 // The kind of a wire with a gate's truth table blank.

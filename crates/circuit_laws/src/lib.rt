@@ -1,5 +1,6 @@
 // What is proved of a whole circuit: garbling and evaluating it gives the right outputs, and what the server sees tells
 // nothing of truth tables and input bits beyond the public table and the outputs.
+#![tactic(auto)]
 
 ghost use Rattle.std.specs.Prelude.{◌≡◌};
 ghost use Rattle.label.specs.Sums.{halves};

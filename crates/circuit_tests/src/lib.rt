@@ -1,4 +1,5 @@
 // Tests of the refusals and of circuit tables: checked, run in the clear, published.
+#![tactic(auto)]
 
 #[cfg(test)]
 mod faults;

@@ -1,4 +1,5 @@
 // The calls of an open sitting: a bit is entered, changed and released, and the sitting is closed.
+#![tactic(auto)]
 
 ghost use Rattle.std.specs.Prelude.{◌≡◌, ◌+◌, ◌*◌, ◌<◌, ◌≤◌, ◌++◌, length, take, drop, is_ok, IfOk, if◌then◌else◌, ◌==◌};
 ghost use Rattle.refusal.specs.Told.{Finds};
@@ -12,12 +13,12 @@ ghost use Rattle.entries.specs.Closing.{FindsOrBack, Counts};
 ghost use Rattle.entries.specs.OneLabel.{OneLabel, CountsLines};
 ghost use Rattle.entries.specs.Sample.{SampleKept};
 
-use slices::overwrite;
 use gate::shift;
 use label::{Label, to_bytes};
 use ledger::{Act, ENTRIES, Ledger};
 use opening::OpenSitting;
 use refusal::{Buffer, Refusal};
+use slices::overwrite;
 
 // A closed sitting: how many entries still waited, and how many labels were released.
 #[derive(Drop)]

@@ -1,4 +1,5 @@
 // The form's parts in bytes: its length, ciphertexts, and control words written and read.
+#![tactic(auto)]
 
 ghost use Rattle.std.specs.Prelude.{◌≡◌, ◌<◌, []};
 ghost use Rattle.form.specs.Controls.{pair_number, control_word, pair_in, controls_in};

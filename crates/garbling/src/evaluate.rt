@@ -26,9 +26,9 @@ fn evaluate_with<H: Hash>(
     second: Label,
     wire: u16,
 ) -> Label
-    ensures value { result ≡ evaluated_gate (function hash.old) (parity_of (class_at (wiring_of circuit.now) wire)) ciphertexts controls first second (gate_tweak wire) }
-    ensures kept { function hash.new ≡ function hash.old }
-    ensures asked { Asked asks (three_questions first second (gate_tweak wire)) hash.old hash.new }
+    ensures value { result ≡ evaluated_gate (H.function hash.old) (parity_of (class_at (wiring_of circuit.now) wire)) ciphertexts controls first second (gate_tweak wire) }
+    ensures kept { H.function hash.new ≡ H.function hash.old }
+    ensures asked { Asked H.asks (three_questions first second (gate_tweak wire)) hash.old hash.new }
 {
     evaluate_gate(
         hash,
@@ -50,9 +50,9 @@ pub fn evaluate_wire<H: Hash>(
     words: &[u64],
     wire: u16,
 ) -> Label
-    ensures value { result ≡ met_with (wiring_of circuit.now) (function hash.old) (record { ciphertexts = ciphertexts; controls = controls }) (kept_at words.now wire) (labels_kept words.now wire) wire }
-    ensures kept { function hash.new ≡ function hash.old }
-    ensures asked { Asked asks (met_asks (wiring_of circuit.now) (labels_kept words.now wire) wire) hash.old hash.new }
+    ensures value { result ≡ met_with (wiring_of circuit.now) (H.function hash.old) (record { ciphertexts = ciphertexts; controls = controls }) (kept_at words.now wire) (labels_kept words.now wire) wire }
+    ensures kept { H.function hash.new ≡ H.function hash.old }
+    ensures asked { Asked H.asks (met_asks (wiring_of circuit.now) (labels_kept words.now wire) wire) hash.old hash.new }
 {
     if circuit.is_input(wire) {
         return kept(words, wire);

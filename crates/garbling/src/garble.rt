@@ -52,9 +52,9 @@ fn garble_with<H: Hash>(
     wire: u16,
     garbled: u16,
 ) -> GarbledGate
-    ensures value { result ≡ garbled_gate (function hash.old) (parity_of (class_at (wiring_of circuit.now) wire)) (truth_at (wiring_of circuit.now) wire) (dice_in drawn.now circuit.now.inputs garbled) (offset_in drawn.now) first second (gate_tweak wire) }
-    ensures kept { function hash.new ≡ function hash.old }
-    ensures asked { Asked asks (gate_questions (offset_in drawn.now) first second (gate_tweak wire)) hash.old hash.new }
+    ensures value { result ≡ garbled_gate (H.function hash.old) (parity_of (class_at (wiring_of circuit.now) wire)) (truth_at (wiring_of circuit.now) wire) (dice_in drawn.now circuit.now.inputs garbled) (offset_in drawn.now) first second (gate_tweak wire) }
+    ensures kept { H.function hash.new ≡ H.function hash.old }
+    ensures asked { Asked H.asks (gate_questions (offset_in drawn.now) first second (gate_tweak wire)) hash.old hash.new }
 {
     let truth_table = circuit.truth_table(wire);
     let dice = draw_dice(drawn, circuit.inputs, garbled);
@@ -79,9 +79,9 @@ pub fn garble_wire<H: Hash>(
     wire: u16,
     garbled: u16,
 ) -> MadeWire
-    ensures value { result ≡ made_from (wiring_of circuit.now) drawn.now (function hash.old) (labels_kept words.now wire) wire garbled }
-    ensures kept { function hash.new ≡ function hash.old }
-    ensures asked { Asked asks (made_asks (wiring_of circuit.now) drawn.now (labels_kept words.now wire) wire) hash.old hash.new }
+    ensures value { result ≡ made_from (wiring_of circuit.now) drawn.now (H.function hash.old) (labels_kept words.now wire) wire garbled }
+    ensures kept { H.function hash.new ≡ H.function hash.old }
+    ensures asked { Asked H.asks (made_asks (wiring_of circuit.now) drawn.now (labels_kept words.now wire) wire) hash.old hash.new }
 {
     if circuit.is_input(wire) {
         return MadeWire::Plain(draw_input(drawn, wire));

@@ -1,4 +1,5 @@
 // A whole circuit garbled and evaluated, wire by wire, over lent words.
+#![tactic(auto)]
 
 mod evaluate;
 mod garble;

@@ -23,9 +23,9 @@ fn mark_tweak(wires: u16, wire: u16) -> u32
 
 // The mark of a label at an output.
 pub fn query_mark<H: Hash>(hash: &mut H, wires: u16, wire: u16, label: Label) -> Mark
-    ensures value { result ≡ mark_of (function hash.old) wires wire label }
-    ensures kept { function hash.new ≡ function hash.old }
-    ensures asked { Asked asks (mark_questions wires wire label) hash.old hash.new }
+    ensures value { result ≡ mark_of (H.function hash.old) wires wire label }
+    ensures kept { H.function hash.new ≡ H.function hash.old }
+    ensures asked { Asked H.asks (mark_questions wires wire label) hash.old hash.new }
 {
     let tweak = mark_tweak(wires, wire);
     let first = hash.query(label, tweak);
@@ -41,9 +41,9 @@ pub fn query_marks<H: Hash>(
     delta: Label,
     label: Label,
 ) -> (Mark, Mark)
-    ensures value { result ≡ (mark_of (function hash.old) wires wire label, mark_of (function hash.old) wires wire (shifted halves delta label true)) }
-    ensures kept { function hash.new ≡ function hash.old }
-    ensures asked { Asked asks ((label, mark_tweak wires wire) ∷ (label, tweak_after (mark_tweak wires wire) 1) ∷ mark_questions wires wire (shifted halves delta label true)) hash.old hash.new }
+    ensures value { result ≡ (mark_of (H.function hash.old) wires wire label, mark_of (H.function hash.old) wires wire (shifted halves delta label true)) }
+    ensures kept { H.function hash.new ≡ H.function hash.old }
+    ensures asked { Asked H.asks ((label, mark_tweak wires wire) ∷ (label, tweak_after (mark_tweak wires wire) 1) ∷ mark_questions wires wire (shifted halves delta label true)) hash.old hash.new }
 {
     let false_mark = query_mark(hash, wires, wire, label);
     let true_mark = query_mark(hash, wires, wire, shift(delta, label, true));

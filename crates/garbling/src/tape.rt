@@ -3,9 +3,9 @@
 ghost use Rattle.std.specs.Prelude.{◌≡◌, true, false};
 ghost use Rattle.garbling.specs.Tape.{need, coloured, offset_in, input_in, dice_in};
 
-use slices::{item_or, word_at};
 use gate::shift;
 use label::{Label, label_at};
+use slices::{item_or, word_at};
 
 // How many bytes an opening draws, for this many inputs and garbled gates.
 pub fn tape_need(inputs: u16, garbled: u16) -> usize

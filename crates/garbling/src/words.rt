@@ -4,8 +4,8 @@ ghost use Rattle.std.specs.Prelude.{◌≡◌};
 ghost use Rattle.garbling.specs.Words.{kept_at, labels_kept, keeping};
 ghost use Rattle.garbling.specs.Garbling.{label_in};
 
-use slices::item_or;
 use label::Label;
+use slices::item_or;
 
 // The label kept for a wire.
 pub(crate) fn kept(words: &[u64], wire: u16) -> Label

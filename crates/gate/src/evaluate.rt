@@ -71,9 +71,9 @@ fn output_label(
 
 // The three answers that the server meets, in the order asked.
 fn ask_three<H: Hash>(hash: &mut H, first: Label, second: Label, tweak: u32) -> [Answer; 3]
-    ensures value { result ≡ answers_to (function hash.old) (three_questions first second tweak) }
-    ensures kept { function hash.new ≡ function hash.old }
-    ensures asked { Asked asks (three_questions first second tweak) hash.old hash.new }
+    ensures value { result ≡ answers_to (H.function hash.old) (three_questions first second tweak) }
+    ensures kept { H.function hash.new ≡ H.function hash.old }
+    ensures asked { Asked H.asks (three_questions first second tweak) hash.old hash.new }
 {
     let sum = first.xor(second);
     let a = hash.query(first, tweak);
@@ -92,9 +92,9 @@ pub fn evaluate_gate<H: Hash>(
     second: Label,
     tweak: u32,
 ) -> Label
-    ensures value { result ≡ evaluated_gate (function hash.old) parity ciphertexts controls first second tweak }
-    ensures kept { function hash.new ≡ function hash.old }
-    ensures asked { Asked asks (three_questions first second tweak) hash.old hash.new }
+    ensures value { result ≡ evaluated_gate (H.function hash.old) parity ciphertexts controls first second tweak }
+    ensures kept { H.function hash.new ≡ H.function hash.old }
+    ensures asked { Asked H.asks (three_questions first second tweak) hash.old hash.new }
 {
     let (i, j) = (colour(first), colour(second));
     let answers = ask_three(hash, first, second, tweak);

@@ -182,9 +182,9 @@ fn assemble(
 
 // The six answers of a gate, from its labels of colour 0, in the order asked.
 fn ask_six<H: Hash>(hash: &mut H, delta: Label, a: Label, b: Label, tweak: u32) -> [Answer; 6]
-    ensures value { result ≡ answers_to (function hash.old) (six_questions delta a b tweak) }
-    ensures kept { function hash.new ≡ function hash.old }
-    ensures asked { Asked asks (six_questions delta a b tweak) hash.old hash.new }
+    ensures value { result ≡ answers_to (H.function hash.old) (six_questions delta a b tweak) }
+    ensures kept { H.function hash.new ≡ H.function hash.old }
+    ensures asked { Asked H.asks (six_questions delta a b tweak) hash.old hash.new }
 {
     let sum = a.xor(b);
     let (a1, b1, sum1) = (a.xor(delta), b.xor(delta), sum.xor(delta));
@@ -211,9 +211,9 @@ pub fn garble_gate<H: Hash>(
     second: Label,
     tweak: u32,
 ) -> GarbledGate
-    ensures value { result ≡ garbled_gate (function hash.old) parity truth_table dice delta first second tweak }
-    ensures kept { function hash.new ≡ function hash.old }
-    ensures asked { Asked asks (gate_questions delta first second tweak) hash.old hash.new }
+    ensures value { result ≡ garbled_gate (H.function hash.old) parity truth_table dice delta first second tweak }
+    ensures kept { H.function hash.new ≡ H.function hash.old }
+    ensures asked { Asked H.asks (gate_questions delta first second tweak) hash.old hash.new }
 {
     let truth = Truth::by_colours(truth_table, colour(first), colour(second));
     let a = shift(delta, first, colour(first));

@@ -1,4 +1,5 @@
 // One gate of the garbled circuit: garbled by a school, evaluated by the server.
+#![tactic(auto)]
 
 mod evaluate;
 mod garble;

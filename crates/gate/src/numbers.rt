@@ -9,7 +9,7 @@ use label::Xor;
 
 // Five numbers, from the left and the right values.
 fn five_numbers<T: Xor>(left: [T; 4], right: [T; 4]) -> [T; 5]
-    ensures { result ≡ listed (five (group plus nought) (value_in (group plus nought) left) (value_in (group plus nought) right)) }
+    ensures { result ≡ listed (five (group T.plus T.nought) (value_in (group T.plus T.nought) left) (value_in (group T.plus T.nought) right)) }
 {
     let [l00, l01, l10, l11] = left;
     let [r00, r01, r10, _] = right;
@@ -25,7 +25,7 @@ fn five_numbers<T: Xor>(left: [T; 4], right: [T; 4]) -> [T; 5]
 
 // What the server adds on the left and on the right, at its pair of colours.
 pub fn add_back<T: Xor>(numbers: [T; 5], i: bool, j: bool) -> (T, T)
-    ensures { result ≡ (back_left (group plus nought) (five_in (group plus nought) numbers) i j, back_right (group plus nought) (five_in (group plus nought) numbers) i j) }
+    ensures { result ≡ (back_left (group T.plus T.nought) (five_in (group T.plus T.nought) numbers) i j, back_right (group T.plus T.nought) (five_in (group T.plus T.nought) numbers) i j) }
 {
     let [n1, n2, n3, n4, n5] = numbers;
     match (i, j) {
@@ -38,7 +38,7 @@ pub fn add_back<T: Xor>(numbers: [T; 5], i: bool, j: bool) -> (T, T)
 
 // The left values: the answers for A and S, with something added.
 fn left_values<T: Xor>(answers: [T; 6], added: [T; 4]) -> [T; 4]
-    ensures { result ≡ four_of (group plus nought) (left_of (group plus nought) (six_in (group plus nought) answers) (value_in (group plus nought) added)) }
+    ensures { result ≡ four_of (group T.plus T.nought) (left_of (group T.plus T.nought) (six_in (group T.plus T.nought) answers) (value_in (group T.plus T.nought) added)) }
 {
     let [a0, a1, _, _, s0, s1] = answers;
     let [k00, k01, k10, k11] = added;
@@ -52,7 +52,7 @@ fn left_values<T: Xor>(answers: [T; 6], added: [T; 4]) -> [T; 4]
 
 // The right values: the answers for B and S, with something added.
 fn right_values<T: Xor>(answers: [T; 6], added: [T; 4]) -> [T; 4]
-    ensures { result ≡ four_of (group plus nought) (right_of (group plus nought) (six_in (group plus nought) answers) (value_in (group plus nought) added)) }
+    ensures { result ≡ four_of (group T.plus T.nought) (right_of (group T.plus T.nought) (six_in (group T.plus T.nought) answers) (value_in (group T.plus T.nought) added)) }
 {
     let [_, _, b0, b1, s0, s1] = answers;
     let [m00, m01, m10, m11] = added;
@@ -66,7 +66,7 @@ fn right_values<T: Xor>(answers: [T; 6], added: [T; 4]) -> [T; 4]
 
 // The five numbers of a gate: its answers, and what is added to them on either side.
 pub fn gate_numbers<T: Xor>(answers: [T; 6], left: [T; 4], right: [T; 4]) -> [T; 5]
-    ensures { result ≡ listed (mixed (group plus nought) (six_in (group plus nought) answers) (value_in (group plus nought) left) (value_in (group plus nought) right)) }
+    ensures { result ≡ listed (mixed (group T.plus T.nought) (six_in (group T.plus T.nought) answers) (value_in (group T.plus T.nought) left) (value_in (group T.plus T.nought) right)) }
 {
     five_numbers(left_values(answers, left), right_values(answers, right))
 }

@@ -1,4 +1,5 @@
 // What is proved of one gate: garbling and evaluating belong together, and what the server sees tells nothing of the truth table.
+#![tactic(auto)]
 
 ghost use Rattle.std.specs.Prelude.{◌≡◌, true, ◌++◌};
 ghost use Rattle.label.specs.Hashes.{Asked};
@@ -22,7 +23,7 @@ use label::{Hash, Label, Xor};
 
 // What the server adds at two colours, from the five numbers of a gate.
 fn added_back<T: Xor>(answers: [T; 6], left: [T; 4], right: [T; 4], i: bool, j: bool) -> (T, T)
-    ensures { result ≡ (back_left (group plus nought) (mixed (group plus nought) (six_in (group plus nought) answers) (value_in (group plus nought) left) (value_in (group plus nought) right)) i j, back_right (group plus nought) (mixed (group plus nought) (six_in (group plus nought) answers) (value_in (group plus nought) left) (value_in (group plus nought) right)) i j) }
+    ensures { result ≡ (back_left (group T.plus T.nought) (mixed (group T.plus T.nought) (six_in (group T.plus T.nought) answers) (value_in (group T.plus T.nought) left) (value_in (group T.plus T.nought) right)) i j, back_right (group T.plus T.nought) (mixed (group T.plus T.nought) (six_in (group T.plus T.nought) answers) (value_in (group T.plus T.nought) left) (value_in (group T.plus T.nought) right)) i j) }
 {
     add_back(gate_numbers(answers, left, right), i, j)
 }
@@ -31,15 +32,15 @@ fn added_back<T: Xor>(answers: [T; 6], left: [T; 4], right: [T; 4], i: bool, j: 
 // back so, evaluating comes to the label of the truth value, the controls give the view, and all of it is the products
 // with the scheme's matrices.
 pub fn value_back<T: Xor>(answers: [T; 6], left: [T; 4], right: [T; 4], i: bool, j: bool) -> (T, T)
-    ensures value { result ≡ (back_left (group plus nought) (mixed (group plus nought) (six_in (group plus nought) answers) (value_in (group plus nought) left) (value_in (group plus nought) right)) i j, back_right (group plus nought) (mixed (group plus nought) (six_in (group plus nought) answers) (value_in (group plus nought) left) (value_in (group plus nought) right)) i j) }
-    ensures space { GateSpace (group plus nought) }
-    ensures law { GateLaw (group plus nought) }
-    ensures controls { ControlLaw (group plus nought) }
-    ensures inverse { NumbersByInverse (group plus nought) }
-    ensures rows { BackByV (group plus nought) }
-    ensures mixing { ValuesByM (group plus nought) }
-    ensures basis { ViewsByBasis (group plus nought) }
-    ensures compressed { ControlsCompressed (group plus nought) }
+    ensures value { result ≡ (back_left (group T.plus T.nought) (mixed (group T.plus T.nought) (six_in (group T.plus T.nought) answers) (value_in (group T.plus T.nought) left) (value_in (group T.plus T.nought) right)) i j, back_right (group T.plus T.nought) (mixed (group T.plus T.nought) (six_in (group T.plus T.nought) answers) (value_in (group T.plus T.nought) left) (value_in (group T.plus T.nought) right)) i j) }
+    ensures space { GateSpace (group T.plus T.nought) }
+    ensures law { GateLaw (group T.plus T.nought) }
+    ensures controls { ControlLaw (group T.plus T.nought) }
+    ensures inverse { NumbersByInverse (group T.plus T.nought) }
+    ensures rows { BackByV (group T.plus T.nought) }
+    ensures mixing { ValuesByM (group T.plus T.nought) }
+    ensures basis { ViewsByBasis (group T.plus T.nought) }
+    ensures compressed { ControlsCompressed (group T.plus T.nought) }
     ensures facts { MatrixFacts }
 {
     added_back(answers, left, right, i, j)
@@ -57,9 +58,9 @@ fn evaluate_bits<H: Hash>(
     u: bool,
     v: bool,
 ) -> Label
-    ensures value { result ≡ evaluated_gate (function hash.old) parity gate.now.ciphertexts gate.now.controls (shifted halves delta first u) (shifted halves delta second v) tweak }
-    ensures kept { function hash.new ≡ function hash.old }
-    ensures asked { Asked asks (three_questions (shifted halves delta first u) (shifted halves delta second v) tweak) hash.old hash.new }
+    ensures value { result ≡ evaluated_gate (H.function hash.old) parity gate.now.ciphertexts gate.now.controls (shifted halves delta first u) (shifted halves delta second v) tweak }
+    ensures kept { H.function hash.new ≡ H.function hash.old }
+    ensures asked { Asked H.asks (three_questions (shifted halves delta first u) (shifted halves delta second v) tweak) hash.old hash.new }
 {
     let a = shift(delta, first, u);
     let b = shift(delta, second, v);
@@ -81,11 +82,11 @@ pub fn play_gate<H: Hash>(
     u: bool,
     v: bool,
 ) -> (GarbledGate, Label)
-    ensures gate { result.0 ≡ garbled_gate (function hash.old) parity truth_table dice delta first second tweak }
-    ensures value { result.1 ≡ evaluated_gate (function hash.old) parity result.0.ciphertexts result.0.controls (shifted halves delta first u) (shifted halves delta second v) tweak }
+    ensures gate { result.0 ≡ garbled_gate (H.function hash.old) parity truth_table dice delta first second tweak }
+    ensures value { result.1 ≡ evaluated_gate (H.function hash.old) parity result.0.ciphertexts result.0.controls (shifted halves delta first u) (shifted halves delta second v) tweak }
     ensures right { suits parity truth_table ≡ true → colour_of delta ≡ true → result.1 ≡ shifted halves delta result.0.label (truth truth_table u v) }
-    ensures kept { function hash.new ≡ function hash.old }
-    ensures asked { Asked asks (gate_questions delta first second tweak ++ three_questions (shifted halves delta first u) (shifted halves delta second v) tweak) hash.old hash.new }
+    ensures kept { H.function hash.new ≡ H.function hash.old }
+    ensures asked { Asked H.asks (gate_questions delta first second tweak ++ three_questions (shifted halves delta first u) (shifted halves delta second v) tweak) hash.old hash.new }
     ensures allowed { AllowedSuits }
     ensures seen { GateSeen }
     ensures blind { GateBlind }

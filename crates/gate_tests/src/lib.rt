@@ -1,4 +1,5 @@
 // Tests of labels, hashes and gates.
+#![tactic(auto)]
 
 #[cfg(test)]
 mod gates;

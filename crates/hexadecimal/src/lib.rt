@@ -1,4 +1,5 @@
 // Bytes written as hexadecimal text: two digits a byte, 0 to 9 and a to f, the high one first.
+#![tactic(auto)]
 
 ghost use Rattle.std.specs.Prelude.{◌≡◌, ℕ, ◌<◌, IfOk, vec_items};
 ghost use Rattle.std.specs.Option.{option_map};

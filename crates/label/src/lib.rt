@@ -1,4 +1,5 @@
 // Labels, the sums that the scheme is made of, and the hash: what garbling and evaluating stand on.
+#![tactic(auto)]
 
 mod hash;
 mod labels;

@@ -1,4 +1,5 @@
 // The ledger of a sitting: whose it is, whose each input wire is, and how far each input has come.
+#![tactic(auto)]
 
 ghost use Rattle.std.specs.Prelude.{◌≡◌, ◌<◌, is_ok, IfOk, if◌then◌else◌};
 ghost use Rattle.refusal.specs.Told.{Finds};
@@ -6,8 +7,8 @@ ghost use Rattle.wires.specs.Read.{wiring_of};
 ghost use Rattle.ledger.specs.Entries.{act_fault, act_after, act_bit, is_waiting, is_released};
 ghost use Rattle.ledger.specs.Ledger.{empty_ledger, opened_ledger, owners_of, owner_at, entry_at, move_fault, moved, waiting_in, released_in};
 
-use slices::item_or;
 use refusal::Refusal;
+use slices::item_or;
 use wires::Circuit;
 
 // The number of entries: one for each input wire that a circuit may have.

@@ -14,10 +14,10 @@ ghost use Rattle.opening.specs.Opening.{opened_form, equal_output, open_asks};
 
 use crate::gates::garble_wires;
 use crate::marks::mark_outputs;
-use slices::overwrite;
 use circuit::public_arrays;
 use garbling::draw_offset;
 use label::{Hash, Label};
+use slices::overwrite;
 use wires::Circuit;
 
 // The four sizes in front of a form.
@@ -65,12 +65,12 @@ pub(crate) fn fill_form<H: Hash>(
     requires words { length work.old ≡ 2 * circuit.now.wires }
     requires gates { garbled ≡ length (garbled_wires (wiring_of circuit.now)) }
     requires marks { outputs ≡ length (output_wires (wiring_of circuit.now)) }
-    ensures form { form.new ≡ opened_form (wiring_of circuit.now) drawn.now (function hash.old) }
-    ensures equal { result ≡ equal_output (wiring_of circuit.now) drawn.now (function hash.old) }
-    ensures labels { labels_kept work.new circuit.now.wires ≡ falses_of (wiring_of circuit.now) drawn.now (function hash.old) }
+    ensures form { form.new ≡ opened_form (wiring_of circuit.now) drawn.now (H.function hash.old) }
+    ensures equal { result ≡ equal_output (wiring_of circuit.now) drawn.now (H.function hash.old) }
+    ensures labels { labels_kept work.new circuit.now.wires ≡ falses_of (wiring_of circuit.now) drawn.now (H.function hash.old) }
     ensures words { length work.new ≡ length work.old }
-    ensures kept { function hash.new ≡ function hash.old }
-    ensures asked { Asked asks (open_asks (wiring_of circuit.now) drawn.now (function hash.old)) hash.old hash.new }
+    ensures kept { H.function hash.new ≡ H.function hash.old }
+    ensures asked { Asked H.asks (open_asks (wiring_of circuit.now) drawn.now (H.function hash.old)) hash.old hash.new }
 {
     let gates_at = 8 + 5 * circuit.wires as usize;
     let marks_at = gates_at + 26 * garbled as usize;

@@ -56,12 +56,12 @@ fn garble_step<H: Hash>(
     requires all { garbled ≡ length (garbled_wires (wiring_of circuit.now)) }
     requires index { next ≡ gate_index (wiring_of circuit.now) wire }
     ensures next { result ≡ gate_index (wiring_of circuit.now) (wire + 1) }
-    ensures labels { labels_kept work.new (wire + 1) ≡ labels_kept work.old wire ++ (false_from (wiring_of circuit.now) drawn.now (function hash.old) (labels_kept work.old wire) wire ∷ []) }
-    ensures rows { (gs : List SentGate) → length gs ≡ next → Rows ciphertext_bytes control_bytes (24 * garbled) gs gates.old → Rows ciphertext_bytes control_bytes (24 * garbled) (gs ++ (if is_garbled (wiring_of circuit.now) wire then sent (gate_from (wiring_of circuit.now) drawn.now (function hash.old) (labels_kept work.old wire) wire) ∷ [] else [])) gates.new }
+    ensures labels { labels_kept work.new (wire + 1) ≡ labels_kept work.old wire ++ (false_from (wiring_of circuit.now) drawn.now (H.function hash.old) (labels_kept work.old wire) wire ∷ []) }
+    ensures rows { (gs : List SentGate) → length gs ≡ next → Rows ciphertext_bytes control_bytes (24 * garbled) gs gates.old → Rows ciphertext_bytes control_bytes (24 * garbled) (gs ++ (if is_garbled (wiring_of circuit.now) wire then sent (gate_from (wiring_of circuit.now) drawn.now (H.function hash.old) (labels_kept work.old wire) wire) ∷ [] else [])) gates.new }
     ensures words { length work.new ≡ length work.old }
     ensures bytes { length gates.new ≡ length gates.old }
-    ensures kept { function hash.new ≡ function hash.old }
-    ensures asked { Asked asks (made_asks (wiring_of circuit.now) drawn.now (labels_kept work.old wire) wire) hash.old hash.new }
+    ensures kept { H.function hash.new ≡ H.function hash.old }
+    ensures asked { Asked H.asks (made_asks (wiring_of circuit.now) drawn.now (labels_kept work.old wire) wire) hash.old hash.new }
 {
     match garble_wire(hash, circuit, drawn, work, wire, next) {
         MadeWire::Plain(label) => {
@@ -88,11 +88,11 @@ pub(crate) fn garble_wires<H: Hash>(
     requires words { length work.old ≡ 2 * circuit.now.wires }
     requires bytes { length gates.old ≡ 26 * garbled }
     requires all { garbled ≡ length (garbled_wires (wiring_of circuit.now)) }
-    ensures labels { labels_kept work.new circuit.now.wires ≡ falses_of (wiring_of circuit.now) drawn.now (function hash.old) }
-    ensures gates { gates.new ≡ gate_bytes (gates_sent (wiring_of circuit.now) drawn.now (function hash.old)) }
+    ensures labels { labels_kept work.new circuit.now.wires ≡ falses_of (wiring_of circuit.now) drawn.now (H.function hash.old) }
+    ensures gates { gates.new ≡ gate_bytes (gates_sent (wiring_of circuit.now) drawn.now (H.function hash.old)) }
     ensures words { length work.new ≡ length work.old }
-    ensures kept { function hash.new ≡ function hash.old }
-    ensures asked { Asked asks (garble_asks (wiring_of circuit.now) drawn.now (function hash.old)) hash.old hash.new }
+    ensures kept { H.function hash.new ≡ H.function hash.old }
+    ensures asked { Asked H.asks (garble_asks (wiring_of circuit.now) drawn.now (H.function hash.old)) hash.old hash.new }
 {
     let mut next = 0;
     for wire in 0..circuit.wires {

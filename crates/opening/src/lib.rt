@@ -1,4 +1,5 @@
 // Opening a sitting: from a circuit table and a random tape to form, store, sheet and ledger.
+#![tactic(auto)]
 
 mod fill;
 mod gates;

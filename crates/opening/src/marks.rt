@@ -70,11 +70,11 @@ fn mark_step<H: Hash>(
     requires all { outputs ≡ length (output_wires (wiring_of circuit.now)) }
     requires index { so_far.next ≡ output_index (wiring_of circuit.now) wire }
     ensures next { result.next ≡ output_index (wiring_of circuit.now) (wire + 1) }
-    ensures equal { result.equal ≡ first_then so_far.equal (equal_at (wiring_of circuit.now) (function hash.old) delta (labels_kept work.now circuit.now.wires) wire) wire }
-    ensures rows { (ps : List MarkPair) → length ps ≡ so_far.next → Rows false_bytes true_bytes (16 * outputs) ps marks.old → Rows false_bytes true_bytes (16 * outputs) (ps ++ (if is_output (wiring_of circuit.now) wire then marks_at (wiring_of circuit.now) (function hash.old) delta (labels_kept work.now circuit.now.wires) wire ∷ [] else [])) marks.new }
+    ensures equal { result.equal ≡ first_then so_far.equal (equal_at (wiring_of circuit.now) (H.function hash.old) delta (labels_kept work.now circuit.now.wires) wire) wire }
+    ensures rows { (ps : List MarkPair) → length ps ≡ so_far.next → Rows false_bytes true_bytes (16 * outputs) ps marks.old → Rows false_bytes true_bytes (16 * outputs) (ps ++ (if is_output (wiring_of circuit.now) wire then marks_at (wiring_of circuit.now) (H.function hash.old) delta (labels_kept work.now circuit.now.wires) wire ∷ [] else [])) marks.new }
     ensures bytes { length marks.new ≡ length marks.old }
-    ensures kept { function hash.new ≡ function hash.old }
-    ensures asked { Asked asks (asks_at (wiring_of circuit.now) delta (labels_kept work.now circuit.now.wires) wire) hash.old hash.new }
+    ensures kept { H.function hash.new ≡ H.function hash.old }
+    ensures asked { Asked H.asks (asks_at (wiring_of circuit.now) delta (labels_kept work.now circuit.now.wires) wire) hash.old hash.new }
 {
     if !circuit.is_output(wire) {
         return so_far;
@@ -99,10 +99,10 @@ pub(crate) fn mark_outputs<H: Hash>(
 ) -> Option<u16>
     requires bytes { length marks.old ≡ 32 * outputs }
     requires all { outputs ≡ length (output_wires (wiring_of circuit.now)) }
-    ensures equal { result ≡ first_of (equal_below (wiring_of circuit.now) (function hash.old) delta (labels_kept work.now circuit.now.wires) circuit.now.wires) }
-    ensures marks { marks.new ≡ mark_bytes (marks_of (wiring_of circuit.now) (function hash.old) delta (labels_kept work.now circuit.now.wires) false) (marks_of (wiring_of circuit.now) (function hash.old) delta (labels_kept work.now circuit.now.wires) true) }
-    ensures kept { function hash.new ≡ function hash.old }
-    ensures asked { Asked asks (marks_ask (wiring_of circuit.now) delta (labels_kept work.now circuit.now.wires)) hash.old hash.new }
+    ensures equal { result ≡ first_of (equal_below (wiring_of circuit.now) (H.function hash.old) delta (labels_kept work.now circuit.now.wires) circuit.now.wires) }
+    ensures marks { marks.new ≡ mark_bytes (marks_of (wiring_of circuit.now) (H.function hash.old) delta (labels_kept work.now circuit.now.wires) false) (marks_of (wiring_of circuit.now) (H.function hash.old) delta (labels_kept work.now circuit.now.wires) true) }
+    ensures kept { H.function hash.new ≡ H.function hash.old }
+    ensures asked { Asked H.asks (marks_ask (wiring_of circuit.now) delta (labels_kept work.now circuit.now.wires)) hash.old hash.new }
 {
     let mut so_far = Marked {
         next: 0,

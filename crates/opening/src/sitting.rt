@@ -19,12 +19,12 @@ ghost use Rattle.opening.specs.Laws.{Alike, ColoursDiffer};
 use crate::fill::{fill_form, fill_sheet, fill_store};
 use crate::room::{Lengths, check_lent};
 use crate::tape::{PlaceGuard, Tape};
-use slices::overwrite;
 use circuit::{SIDES, Table};
 use garbling::{draw_offset, tape_need};
 use label::Hash;
 use ledger::Ledger;
 use refusal::Refusal;
+use slices::overwrite;
 use wires::Circuit;
 
 // Fills form, store, sheet and ledger from the drawn bytes; where an output has equal marks, all four are blank, and the answer is that output.
@@ -48,13 +48,13 @@ fn fill_buffers<H: Hash>(
     requires inputs { circuit.now.inputs ≤ circuit.now.wires }
     requires gates { garbled ≡ length (garbled_wires (wiring_of circuit.now)) }
     requires marks { outputs ≡ length (output_wires (wiring_of circuit.now)) }
-    ensures equal { result ≡ equal_output (wiring_of circuit.now) drawn.now (function hash.old) }
-    ensures form { form.new ≡ unless_equal result (opened_form (wiring_of circuit.now) drawn.now (function hash.old)) (zeros form.old) }
-    ensures store { store.new ≡ unless_equal result (opened_store (wiring_of circuit.now) drawn.now (function hash.old)) (zeros store.old) }
+    ensures equal { result ≡ equal_output (wiring_of circuit.now) drawn.now (H.function hash.old) }
+    ensures form { form.new ≡ unless_equal result (opened_form (wiring_of circuit.now) drawn.now (H.function hash.old)) (zeros form.old) }
+    ensures store { store.new ≡ unless_equal result (opened_store (wiring_of circuit.now) drawn.now (H.function hash.old)) (zeros store.old) }
     ensures sheet { sheet.new ≡ unless_equal result (blank_sheet circuit.now.inputs) (zeros sheet.old) }
     ensures ledger { ledger.new ≡ unless_equal result (opened_ledger side (wiring_of circuit.now)) empty_ledger }
-    ensures kept { function hash.new ≡ function hash.old }
-    ensures asked { Asked asks (open_asks (wiring_of circuit.now) drawn.now (function hash.old)) hash.old hash.new }
+    ensures kept { H.function hash.new ≡ H.function hash.old }
+    ensures asked { Asked H.asks (open_asks (wiring_of circuit.now) drawn.now (H.function hash.old)) hash.old hash.new }
 {
     match fill_form(hash, circuit, drawn, work, form, garbled, outputs) {
         Some(wire) => {
@@ -92,15 +92,15 @@ fn open_guarded<H: Hash>(
     requires inputs { table.now.circuit.inputs ≤ table.now.circuit.wires }
     requires gates { table.now.garbled ≡ length (garbled_wires (wiring_of table.now.circuit)) }
     requires marks { table.now.outputs ≡ length (output_wires (wiring_of table.now.circuit)) }
-    ensures fault { Finds result (or_else (tape_fault (wiring_of table.now.circuit) tape.old.bytes.now tape.old.place) (marks_fault (equal_output (wiring_of table.now.circuit) (drawn_for (wiring_of table.now.circuit) tape.old.bytes.now tape.old.place) (function hash.old)))) }
+    ensures fault { Finds result (or_else (tape_fault (wiring_of table.now.circuit) tape.old.bytes.now tape.old.place) (marks_fault (equal_output (wiring_of table.now.circuit) (drawn_for (wiring_of table.now.circuit) tape.old.bytes.now tape.old.place) (H.function hash.old)))) }
     ensures place { tape.new.place ≡ left result (tape.old.place + need_of (wiring_of table.now.circuit)) tape.old.place tape.old.place }
     ensures tape { tape.new.bytes ≡ tape.old.bytes }
-    ensures form { form.new ≡ left result (opened_form (wiring_of table.now.circuit) (drawn_for (wiring_of table.now.circuit) tape.old.bytes.now tape.old.place) (function hash.old)) (zeros form.old) form.old }
-    ensures store { store.new ≡ left result (opened_store (wiring_of table.now.circuit) (drawn_for (wiring_of table.now.circuit) tape.old.bytes.now tape.old.place) (function hash.old)) (zeros store.old) store.old }
+    ensures form { form.new ≡ left result (opened_form (wiring_of table.now.circuit) (drawn_for (wiring_of table.now.circuit) tape.old.bytes.now tape.old.place) (H.function hash.old)) (zeros form.old) form.old }
+    ensures store { store.new ≡ left result (opened_store (wiring_of table.now.circuit) (drawn_for (wiring_of table.now.circuit) tape.old.bytes.now tape.old.place) (H.function hash.old)) (zeros store.old) store.old }
     ensures sheet { sheet.new ≡ left result (blank_sheet table.now.circuit.inputs) (zeros sheet.old) sheet.old }
     ensures ledger { ledger.new ≡ left result (opened_ledger side (wiring_of table.now.circuit)) empty_ledger ledger.old }
-    ensures kept { function hash.new ≡ function hash.old }
-    ensures asked { Asked asks (asked_by result (open_asks (wiring_of table.now.circuit) (drawn_for (wiring_of table.now.circuit) tape.old.bytes.now tape.old.place) (function hash.old))) hash.old hash.new }
+    ensures kept { H.function hash.new ≡ H.function hash.old }
+    ensures asked { Asked H.asks (asked_by result (open_asks (wiring_of table.now.circuit) (drawn_for (wiring_of table.now.circuit) tape.old.bytes.now tape.old.place) (H.function hash.old))) hash.old hash.new }
 {
     let circuit = table.circuit();
     let need = tape_need(circuit.inputs, table.garbled());
@@ -153,17 +153,17 @@ fn open_lent<H: Hash>(
     ledger: &mut Ledger,
     work: &mut [u64],
 ) -> Result<OpenSitting, Refusal>
-    ensures fault { Finds result (open_fault side table.now (record { form = length form.entry.now; store = length store.old; sheet = length sheet.old; work = length work.old }) tape.old.bytes.now tape.old.place (function hash.old)) }
+    ensures fault { Finds result (open_fault side table.now (record { form = length form.entry.now; store = length store.old; sheet = length sheet.old; work = length work.old }) tape.old.bytes.now tape.old.place (H.function hash.old)) }
     ensures sitting { IfOk result (λ s. (s.side ≡ side) × (s.inputs ≡ (table_wiring table.now).inputs)) }
     ensures place { tape.new.place ≡ left result (tape.old.place + need_of (table_wiring table.now)) tape.old.place tape.old.place }
     ensures tape { tape.new.bytes ≡ tape.old.bytes }
-    ensures form { form.new ≡ left result (opened_form (table_wiring table.now) (drawn_for (table_wiring table.now) tape.old.bytes.now tape.old.place) (function hash.old)) (zeros form.old) form.old }
-    ensures store { store.new ≡ left result (opened_store (table_wiring table.now) (drawn_for (table_wiring table.now) tape.old.bytes.now tape.old.place) (function hash.old)) (zeros store.old) store.old }
+    ensures form { form.new ≡ left result (opened_form (table_wiring table.now) (drawn_for (table_wiring table.now) tape.old.bytes.now tape.old.place) (H.function hash.old)) (zeros form.old) form.old }
+    ensures store { store.new ≡ left result (opened_store (table_wiring table.now) (drawn_for (table_wiring table.now) tape.old.bytes.now tape.old.place) (H.function hash.old)) (zeros store.old) store.old }
     ensures sheet { sheet.new ≡ left result (blank_sheet (table_wiring table.now).inputs) (zeros sheet.old) sheet.old }
     ensures ledger { ledger.new ≡ left result (opened_ledger side (table_wiring table.now)) empty_ledger ledger.old }
     ensures words { length work.new ≡ length work.old }
-    ensures kept { function hash.new ≡ function hash.old }
-    ensures asked { Asked asks (asked_by result (open_asks (table_wiring table.now) (drawn_for (table_wiring table.now) tape.old.bytes.now tape.old.place) (function hash.old))) hash.old hash.new }
+    ensures kept { H.function hash.new ≡ H.function hash.old }
+    ensures asked { Asked H.asks (asked_by result (open_asks (table_wiring table.now) (drawn_for (table_wiring table.now) tape.old.bytes.now tape.old.place) (H.function hash.old))) hash.old hash.new }
 {
     if side >= u32::from(SIDES) {
         return Err(Refusal::NoSuchSide);
@@ -196,17 +196,17 @@ fn open_wiped<H: Hash>(
     ledger: &mut Ledger,
     work: &mut [u64],
 ) -> Result<OpenSitting, Refusal>
-    ensures fault { Finds result (open_fault side table.now (record { form = length form.entry.now; store = length store.old; sheet = length sheet.old; work = length work.old }) tape.old.bytes.now tape.old.place (function hash.old)) }
+    ensures fault { Finds result (open_fault side table.now (record { form = length form.entry.now; store = length store.old; sheet = length sheet.old; work = length work.old }) tape.old.bytes.now tape.old.place (H.function hash.old)) }
     ensures sitting { IfOk result (λ s. (s.side ≡ side) × (s.inputs ≡ (table_wiring table.now).inputs)) }
     ensures place { tape.new.place ≡ left result (tape.old.place + need_of (table_wiring table.now)) tape.old.place tape.old.place }
     ensures tape { tape.new.bytes ≡ tape.old.bytes }
-    ensures form { form.new ≡ left result (opened_form (table_wiring table.now) (drawn_for (table_wiring table.now) tape.old.bytes.now tape.old.place) (function hash.old)) (zeros form.old) form.old }
-    ensures store { store.new ≡ left result (opened_store (table_wiring table.now) (drawn_for (table_wiring table.now) tape.old.bytes.now tape.old.place) (function hash.old)) (zeros store.old) store.old }
+    ensures form { form.new ≡ left result (opened_form (table_wiring table.now) (drawn_for (table_wiring table.now) tape.old.bytes.now tape.old.place) (H.function hash.old)) (zeros form.old) form.old }
+    ensures store { store.new ≡ left result (opened_store (table_wiring table.now) (drawn_for (table_wiring table.now) tape.old.bytes.now tape.old.place) (H.function hash.old)) (zeros store.old) store.old }
     ensures sheet { sheet.new ≡ left result (blank_sheet (table_wiring table.now).inputs) (zeros sheet.old) sheet.old }
     ensures ledger { ledger.new ≡ left result (opened_ledger side (table_wiring table.now)) empty_ledger ledger.old }
     ensures work { work.new ≡ zeros work.old }
-    ensures kept { function hash.new ≡ function hash.old }
-    ensures asked { Asked asks (asked_by result (open_asks (table_wiring table.now) (drawn_for (table_wiring table.now) tape.old.bytes.now tape.old.place) (function hash.old))) hash.old hash.new }
+    ensures kept { H.function hash.new ≡ H.function hash.old }
+    ensures asked { Asked H.asks (asked_by result (open_asks (table_wiring table.now) (drawn_for (table_wiring table.now) tape.old.bytes.now tape.old.place) (H.function hash.old))) hash.old hash.new }
 {
     let opened = open_lent(side, table, tape, hash, form, store, sheet, ledger, work);
     overwrite(work, 0);
@@ -225,17 +225,17 @@ pub fn open<H: Hash>(
     ledger: &mut Ledger,
     work: &mut [u64],
 ) -> Result<OpenSitting, Refusal>
-    ensures fault { Finds result (open_fault side table.now (record { form = length form.entry.now; store = length store.old; sheet = length sheet.old; work = length work.old }) tape.old.bytes.now tape.old.place (function hash.old)) }
+    ensures fault { Finds result (open_fault side table.now (record { form = length form.entry.now; store = length store.old; sheet = length sheet.old; work = length work.old }) tape.old.bytes.now tape.old.place (H.function hash.old)) }
     ensures sitting { IfOk result (λ s. (s.side ≡ side) × (s.inputs ≡ (table_wiring table.now).inputs)) }
     ensures place { tape.new.place ≡ left result (tape.old.place + need_of (table_wiring table.now)) tape.old.place tape.old.place }
     ensures tape { tape.new.bytes ≡ tape.old.bytes }
-    ensures form { form.new ≡ left result (opened_form (table_wiring table.now) (drawn_for (table_wiring table.now) tape.old.bytes.now tape.old.place) (function hash.old)) (zeros form.old) form.old }
-    ensures store { store.new ≡ left result (opened_store (table_wiring table.now) (drawn_for (table_wiring table.now) tape.old.bytes.now tape.old.place) (function hash.old)) (zeros store.old) store.old }
+    ensures form { form.new ≡ left result (opened_form (table_wiring table.now) (drawn_for (table_wiring table.now) tape.old.bytes.now tape.old.place) (H.function hash.old)) (zeros form.old) form.old }
+    ensures store { store.new ≡ left result (opened_store (table_wiring table.now) (drawn_for (table_wiring table.now) tape.old.bytes.now tape.old.place) (H.function hash.old)) (zeros store.old) store.old }
     ensures sheet { sheet.new ≡ left result (blank_sheet (table_wiring table.now).inputs) (zeros sheet.old) sheet.old }
     ensures ledger { ledger.new ≡ left result (opened_ledger side (table_wiring table.now)) empty_ledger ledger.old }
     ensures work { work.new ≡ zeros work.old }
-    ensures kept { function hash.new ≡ function hash.old }
-    ensures asked { Asked asks (asked_by result (open_asks (table_wiring table.now) (drawn_for (table_wiring table.now) tape.old.bytes.now tape.old.place) (function hash.old))) hash.old hash.new }
+    ensures kept { H.function hash.new ≡ H.function hash.old }
+    ensures asked { Asked H.asks (asked_by result (open_asks (table_wiring table.now) (drawn_for (table_wiring table.now) tape.old.bytes.now tape.old.place) (H.function hash.old))) hash.old hash.new }
     ensures shows { is_ok result ≡ true → PublicOf (table_wiring table.now) (form_wiring form.new) }
     ensures alike { Alike }
     ensures colours { ColoursDiffer }

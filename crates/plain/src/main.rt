@@ -1,5 +1,6 @@
 // The program `plain`: reads a circuit table in hexadecimal, prints its sizes, and runs it in the clear.
 // Up to eight inputs it prints the outputs for every combination of input bits; with more, for the bits on each line that follows.
+#![tactic(auto)]
 
 mod reason;
 mod show;

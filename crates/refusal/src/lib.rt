@@ -1,4 +1,5 @@
 // The refusals: one case for each cause for which a call may say no, with its number and place.
+#![tactic(auto)]
 
 ghost use Rattle.std.specs.Prelude.{◌≡◌};
 ghost use Rattle.refusal.specs.Told.{told, place_of};

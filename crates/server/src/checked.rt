@@ -11,11 +11,11 @@ ghost use Rattle.server.specs.Gates.{ciphertexts_of, controls_of};
 ghost use Rattle.server.specs.Passes.{FormPasses};
 
 use crate::check::scan;
-use slices::{short_at, word_at};
 use form::controls_of;
 use garbling::Mark;
 use label::ControlPair;
 use refusal::Refusal;
+use slices::{short_at, word_at};
 use wires::Circuit;
 
 // A form that passed its check.

@@ -54,9 +54,9 @@ fn evaluate_next<H: Hash>(
     wire: u16,
     gate: u16,
 )
-    ensures words { words.new ≡ keeping words.old wire (met_with (wiring_of circuit.now) (function hash.old) (sent_at form.now.bytes.now gate) (kept_at words.old wire) (labels_kept words.old wire) wire) }
-    ensures kept { function hash.new ≡ function hash.old }
-    ensures asked { Asked asks (met_asks (wiring_of circuit.now) (labels_kept words.old wire) wire) hash.old hash.new }
+    ensures words { words.new ≡ keeping words.old wire (met_with (wiring_of circuit.now) (H.function hash.old) (sent_at form.now.bytes.now gate) (kept_at words.old wire) (labels_kept words.old wire) wire) }
+    ensures kept { H.function hash.new ≡ H.function hash.old }
+    ensures asked { Asked H.asks (met_asks (wiring_of circuit.now) (labels_kept words.old wire) wire) hash.old hash.new }
 {
     let label = evaluate_wire(
         hash,
@@ -77,9 +77,9 @@ pub(crate) fn evaluate_wires<H: Hash>(
     words: &mut [u64],
 )
     requires { length words.old ≡ 2 * circuit.now.wires }
-    ensures labels { Evaluates (wiring_of circuit.now) form.now.bytes.now (function hash.old) words.old words.new }
-    ensures kept { function hash.new ≡ function hash.old }
-    ensures asked { EvaluateAsked asks (wiring_of circuit.now) form.now.bytes.now (function hash.old) words.old hash.old hash.new }
+    ensures labels { Evaluates (wiring_of circuit.now) form.now.bytes.now (H.function hash.old) words.old words.new }
+    ensures kept { H.function hash.new ≡ H.function hash.old }
+    ensures asked { EvaluateAsked asks (wiring_of circuit.now) form.now.bytes.now (H.function hash.old) words.old hash.old hash.new }
 {
     let mut gate = 0;
     for wire in 0..circuit.wires {

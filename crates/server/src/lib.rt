@@ -1,4 +1,5 @@
 // The server: a form is checked, and run on the sheets of both sides.
+#![tactic(auto)]
 
 mod check;
 mod checked;

@@ -19,9 +19,9 @@ use wires::Circuit;
 
 // The mark of an output's label, kept in the label's place.
 fn ask_mark<H: Hash>(circuit: &Circuit, hash: &mut H, words: &mut [u64], wire: u16)
-    ensures words { words.new ≡ keeping words.old wire (mark_of (function hash.old) circuit.now.wires wire (label_in (labels_kept words.old circuit.now.wires) wire)) }
-    ensures kept { function hash.new ≡ function hash.old }
-    ensures asked { Asked asks (mark_questions circuit.now.wires wire (label_in (labels_kept words.old circuit.now.wires) wire)) hash.old hash.new }
+    ensures words { words.new ≡ keeping words.old wire (mark_of (H.function hash.old) circuit.now.wires wire (label_in (labels_kept words.old circuit.now.wires) wire)) }
+    ensures kept { H.function hash.new ≡ H.function hash.old }
+    ensures asked { Asked H.asks (mark_questions circuit.now.wires wire (label_in (labels_kept words.old circuit.now.wires) wire)) hash.old hash.new }
 {
     let label = label_below(words, circuit.wires, wire);
     let mark = query_mark(hash, circuit.wires, wire, label);
@@ -31,9 +31,9 @@ fn ask_mark<H: Hash>(circuit: &Circuit, hash: &mut H, words: &mut [u64], wire: u
 // The marks of all outputs, each kept in its label's place.
 fn ask_marks<H: Hash>(circuit: &Circuit, hash: &mut H, words: &mut [u64])
     requires { length words.old ≡ 2 * circuit.now.wires }
-    ensures marks { HoldMarks (wiring_of circuit.now) (function hash.old) (labels_kept words.old circuit.now.wires) words.new }
-    ensures kept { function hash.new ≡ function hash.old }
-    ensures asked { Asked asks (output_asks (wiring_of circuit.now) (labels_kept words.old circuit.now.wires)) hash.old hash.new }
+    ensures marks { HoldMarks (wiring_of circuit.now) (H.function hash.old) (labels_kept words.old circuit.now.wires) words.new }
+    ensures kept { H.function hash.new ≡ H.function hash.old }
+    ensures asked { Asked H.asks (output_asks (wiring_of circuit.now) (labels_kept words.old circuit.now.wires)) hash.old hash.new }
 {
     for wire in 0..circuit.wires {
         if circuit.is_output(wire) {
@@ -148,10 +148,10 @@ pub(crate) fn read_outputs<H: Hash>(
 ) -> Result<(), Refusal>
     requires words { length words.old ≡ 2 * circuit.now.wires }
     requires outputs { length outputs.old ≡ length (output_wires (wiring_of circuit.now)) }
-    ensures fault { Finds result (neither_fault (wiring_of circuit.now) form.now.bytes.now (function hash.old) (labels_kept words.old circuit.now.wires)) }
-    ensures outputs { outputs.new ≡ (if is_ok result then output_bytes (wiring_of circuit.now) form.now.bytes.now (function hash.old) (labels_kept words.old circuit.now.wires) else outputs.old) }
-    ensures kept { function hash.new ≡ function hash.old }
-    ensures asked { Asked asks (output_asks (wiring_of circuit.now) (labels_kept words.old circuit.now.wires)) hash.old hash.new }
+    ensures fault { Finds result (neither_fault (wiring_of circuit.now) form.now.bytes.now (H.function hash.old) (labels_kept words.old circuit.now.wires)) }
+    ensures outputs { outputs.new ≡ (if is_ok result then output_bytes (wiring_of circuit.now) form.now.bytes.now (H.function hash.old) (labels_kept words.old circuit.now.wires) else outputs.old) }
+    ensures kept { H.function hash.new ≡ H.function hash.old }
+    ensures asked { Asked H.asks (output_asks (wiring_of circuit.now) (labels_kept words.old circuit.now.wires)) hash.old hash.new }
 {
     ask_marks(circuit, hash, words);
     decide_outputs(circuit, form, words, outputs)

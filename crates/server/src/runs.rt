@@ -12,9 +12,9 @@ use crate::checked::CheckedForm;
 use crate::labels::{evaluate_wires, take_labels};
 use crate::outputs::read_outputs;
 use crate::sheets::Sheets;
-use slices::overwrite;
 use label::Hash;
 use refusal::Refusal;
+use slices::overwrite;
 use wires::Circuit;
 
 // The steps of a run, each in its order; the work words are left as they are then.
@@ -26,10 +26,10 @@ fn run_steps<H: Hash>(
     work: &mut [u64],
     outputs: &mut [u8],
 ) -> Result<(), Refusal>
-    ensures fault { Finds result (fault_on (wiring_of circuit.now) form.now.bytes.now (function hash.old) (sheets_of sheets.now) (length work.old) (length outputs.old)) }
-    ensures outputs { outputs.new ≡ (if is_ok result then output_bytes (wiring_of circuit.now) form.now.bytes.now (function hash.old) (labels_met (wiring_of circuit.now) form.now.bytes.now (function hash.old) (sheets_of sheets.now)) else outputs.old) }
-    ensures kept { function hash.new ≡ function hash.old }
-    ensures asked { Asked asks (asks_on (wiring_of circuit.now) form.now.bytes.now (function hash.old) (sheets_of sheets.now) (length work.old) (length outputs.old)) hash.old hash.new }
+    ensures fault { Finds result (fault_on (wiring_of circuit.now) form.now.bytes.now (H.function hash.old) (sheets_of sheets.now) (length work.old) (length outputs.old)) }
+    ensures outputs { outputs.new ≡ (if is_ok result then output_bytes (wiring_of circuit.now) form.now.bytes.now (H.function hash.old) (labels_met (wiring_of circuit.now) form.now.bytes.now (H.function hash.old) (sheets_of sheets.now)) else outputs.old) }
+    ensures kept { H.function hash.new ≡ H.function hash.old }
+    ensures asked { Asked H.asks (asks_on (wiring_of circuit.now) form.now.bytes.now (H.function hash.old) (sheets_of sheets.now) (length work.old) (length outputs.old)) hash.old hash.new }
 {
     sheets.check_lengths(circuit, work.len(), outputs.len())?;
     sheets.check(circuit)?;
@@ -48,11 +48,11 @@ pub fn run<'a, H: Hash>(
     work: &mut [u64],
     outputs: &mut [u8],
 ) -> Result<(), Refusal>
-    ensures fault { Finds result (run_fault form.now.bytes.now (function hash.old) (sheet0.now ∷ sheet1.now ∷ []) (length work.old) (length outputs.old)) }
-    ensures outputs { outputs.new ≡ (if is_ok result then run_outputs form.now.bytes.now (function hash.old) (sheet0.now ∷ sheet1.now ∷ []) else outputs.old) }
+    ensures fault { Finds result (run_fault form.now.bytes.now (H.function hash.old) (sheet0.now ∷ sheet1.now ∷ []) (length work.old) (length outputs.old)) }
+    ensures outputs { outputs.new ≡ (if is_ok result then run_outputs form.now.bytes.now (H.function hash.old) (sheet0.now ∷ sheet1.now ∷ []) else outputs.old) }
     ensures work { work.new ≡ replicate (length work.old) 0 }
-    ensures kept { function hash.new ≡ function hash.old }
-    ensures asked { Asked asks (run_asks form.now.bytes.now (function hash.old) (sheet0.now ∷ sheet1.now ∷ []) (length work.old) (length outputs.old)) hash.old hash.new }
+    ensures kept { H.function hash.new ≡ H.function hash.old }
+    ensures asked { Asked H.asks (run_asks form.now.bytes.now (H.function hash.old) (sheet0.now ∷ sheet1.now ∷ []) (length work.old) (length outputs.old)) hash.old hash.new }
 {
     let circuit = form.circuit();
     let sheets = Sheets::new(sheet0, sheet1);

@@ -6,9 +6,9 @@ ghost use Rattle.refusal.specs.declared.Refusal.TheVariants.{WrongLength};
 ghost use Rattle.wires.specs.Read.{wiring_of};
 ghost use Rattle.server.specs.Sheets.{sheets_of, sheet_at, label_read, own_label, mark_sound, marks_sound, sheets_fit, marks_fault, sheets_fault, lengths_fault};
 
-use slices::{item_or, short_at, word_at};
 use label::Label;
 use refusal::{Buffer, Refusal};
+use slices::{item_or, short_at, word_at};
 use wires::Circuit;
 
 // A sheet for each side, as many as `circuit::SIDES`: what is per side stands here, and in the parameters of a run.

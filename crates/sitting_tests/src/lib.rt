@@ -1,4 +1,5 @@
 // Tests of sittings: opened, entered, released and closed.
+#![tactic(auto)]
 
 #[cfg(test)]
 mod desk;

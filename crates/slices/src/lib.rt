@@ -1,4 +1,5 @@
 // Slices: an item or a default, little-endian numbers at a place, and one value everywhere. Every reader answers for every place.
+#![tactic(auto)]
 
 ghost use Rattle.std.specs.Prelude.{◌≡◌, ◌<◌, length, replicate, slice_index_or, slice_set};
 ghost use Rattle.slices.specs.Little.{short_at, word_at};

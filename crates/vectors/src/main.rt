@@ -1,5 +1,6 @@
 // The program `vectors`: runs the published vectors of the ciphers, queries of the hashes whose answers were computed
 // apart from this code, and the Monday gate. Each line says 'ok', or what differs.
+#![tactic(auto)]
 
 mod aes_run;
 mod chacha_published;

@@ -1,4 +1,5 @@
 // The wires of a circuit, read from the arrays of a table or a form. Every reader answers for every wire and all bytes.
+#![tactic(auto)]
 
 ghost use Rattle.std.specs.Prelude.{◌≡◌, ◌%◌, length};
 ghost use Rattle.wires.specs.Wires.{truth, allowed, kind_at, side_at, class_at, class_of, truth_at, first_at, second_at, is_input, is_output, is_garbled, output_wires, garbled_wires};

@@ -7,7 +7,7 @@ pub returns : goal.returns
 unfolding material_of
 returns c =
     answer_is (material_of c.args.self.now) c.args.label.0 c.args.label.1 c.args.tweak
-    c.times.result c.times-2.result c.number-of.result c.twice.result c.twice-2.result
-    c.block-of-halves.result c.encrypt-ciphertext.result
-    c.times.ensures c.times-2.ensures c.block-of-halves.ensures c.encrypt-ciphertext.ensures c.number-of.ensures
-    c.twice.ensures c.twice-2.ensures c.twice.type-inv
+    c.times.result c.times-2.result c.number_of.result c.twice.result c.twice-2.result
+    c.block_of_halves.result c.encrypt-ciphertext.result
+    c.times.ensures c.times-2.ensures c.block_of_halves.ensures c.encrypt-ciphertext.ensures c.number_of.ensures
+    c.twice.ensures c.twice-2.ensures c.twice.type_inv

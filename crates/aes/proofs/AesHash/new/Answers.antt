@@ -11,16 +11,16 @@ holds_key : (bytes words : List ℕ) → words ≡ key_expansion (take 16 bytes)
 holds_key bytes words e long below =
     ap state_of e ∙ key_is (take 16 bytes) (simp length-take (omega arith)) (take_below 16 bytes below)
 
-pub invariant-of-result : goal.invariant-of-result
-invariant-of-result c =
+pub invariant_of-result : goal.invariant_of-result
+invariant_of-result c =
     let e = c.expanded-words.ensures in
-    let key = holds_key c.args.key.now c.expanded-words.result e (omega arith) (λ i. (c.type-inv.key i).fits) in
-    (e ∙ ap key_expansion (sym key), tt)
+    let key = holds_key c.args.key.now c.expanded-words.result e (omega arith) (λ i. (c.type_inv.key i).fits) in
+    record { expands = e ∙ ap key_expansion (sym key) }
 
 pub returns : goal.returns
 unfolding material_of
 returns c =
-    let key = holds_key c.args.key.now c.expanded-words.result c.expanded-words.ensures (omega arith) (λ i. (c.type-inv.key i).fits) in
-    let first = c.new-u1.ensures ∙ c.number-of.ensures in
-    let second = c.new-u2.ensures ∙ c.number-of-2.ensures in
+    let key = holds_key c.args.key.now c.expanded-words.result c.expanded-words.ensures (omega arith) (λ i. (c.type_inv.key i).fits) in
+    let first = c.new-u1.ensures ∙ c.number_of.ensures in
+    let second = c.new-u2.ensures ∙ c.number_of-2.ensures in
     record { fault = search rules; holds = λ i. record { key = key i; u1 = first i; u2 = second i } }

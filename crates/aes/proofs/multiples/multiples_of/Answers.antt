@@ -18,15 +18,15 @@ part_lt k h =
 part_is : (k : ℕ) → k < 128 → (k % 16 * 2 ^ (4 * (k / 16))) % 2 ^ 64 ≡ k % 16 * 2 ^ (4 * (k / 16))
 part_is k h = shl_whole (k % 16) 4 (4 * (k / 16)) 64 (omega arith) (omega arith)
 
-pub overflow-cast-k : goal.overflow-cast-k
-overflow-cast-k c = record { fits = rw (part_is c.loop-k.k c.loop-k-test.true) (part_lt c.loop-k.k c.loop-k-test.true) }
+pub overflow_cast-k : goal.overflow_cast-k
+overflow_cast-k c = record { fits = rw (part_is c.loop-k.k c.loop-k-test.true) (part_lt c.loop-k.k c.loop-k-test.true) }
 
 pub loop-k-preserved : goal.loop-k-preserved
 unfolding multiple
 loop-k-preserved c =
     let k = c.loop-k.k in
-    let e : c.times-tweak.result ≡ multiple c.args.a k =
-    c.times-tweak.ensures ∙ ap (times64 c.args.a) (part_is k c.loop-k-test.true) in (
+    let e : c.times_tweak.result ≡ multiple c.args.a k =
+    c.times_tweak.ensures ∙ ap (times64 c.args.a) (part_is k c.loop-k-test.true) in (
       (λ i h. ap (λ (v : ℕ). get_or (set c.loop-k.entries k v) i 0) e
           ∙ fill_by_more (multiple c.args.a) c.loop-k.entries k 0 (omega arith) c.loop-k.invariant.0 i h),
       simp length-set c.loop-k.invariant.1,

@@ -10,13 +10,13 @@ rounds_more n block w = rw add-one
 
 pub loop-i-init : goal.loop-i-init
 unfolding rounds
-loop-i-init c = c.first-round-s.ensures
+loop-i-init c = c.first_round-s.ensures
 
 pub loop-i-preserved : goal.loop-i-preserved
 loop-i-preserved c =
     let w = c.args.w.now in
     let i = c.loop-i.i in
-    c.mixed-round-next.ensures
+    c.mixed_round-next.ensures
     ∙ ap (λ (s : List ℕ). add_round_key (mix_columns (shift_rows (sub_bytes s))) (round_key w (i + 1))) c.loop-i.invariant
     ∙ sym (rounds_more i c.args.block.now w)
 
@@ -25,7 +25,7 @@ unfolding cipher
 returns c =
     let block = c.args.block.now in
     let w = c.args.w.now in
-    c.block-of.ensures
-    ∙ c.last-round.ensures
+    c.block_of.ensures
+    ∙ c.last_round.ensures
     ∙ ap (λ (s : List ℕ). add_round_key (shift_rows (sub_bytes s)) (round_key w 10))
     (c.loop-i.invariant ∙ ap (λ (n : ℕ). rounds n block w) (omega arith))

@@ -9,8 +9,8 @@ pub returns : goal.returns
 returns c =
     let block = c.args.block.now in
     let i = c.args.i in
-    bytes_xor c.from-be-bytes.result c.args.key
+    bytes_xor c.from_be_bytes.result c.args.key
     ∙ ap (λ (l : List ℕ). add_columns l (bytes_of c.args.key))
-    (ap bytes_of c.from-be-bytes.ensures
+    (ap bytes_of c.from_be_bytes.ensures
     ∙ bytes_word (get_or block i 0) (get_or block (i + 1) 0) (get_or block (i + 2) 0) (get_or block (i + 3) 0)
     (omega arith) (omega arith) (omega arith) (omega arith))

@@ -7,13 +7,13 @@ use Rattle.aes.proofs.rounds.last_column.Goals as goal
 
 pub returns : goal.returns
 returns c =
-    bytes_xor c.from-be-bytes.result c.args.key
+    bytes_xor c.from_be_bytes.result c.args.key
     ∙ ap (λ (l : List ℕ). add_columns l (bytes_of c.args.key))
-    (ap bytes_of c.from-be-bytes.ensures
-    ∙ bytes_word c.sub-byte.result c.sub-byte-2.result c.sub-byte-3.result c.sub-byte-4.result
-    c.sub-byte.type-inv c.sub-byte-2.type-inv c.sub-byte-3.type-inv c.sub-byte-4.type-inv
+    (ap bytes_of c.from_be_bytes.ensures
+    ∙ bytes_word c.sub_byte.result c.sub_byte-2.result c.sub_byte-3.result c.sub_byte-4.result
+    c.sub_byte.type_inv c.sub_byte-2.type_inv c.sub_byte-3.type_inv c.sub_byte-4.type_inv
     ∙ four
-    (c.sub-byte.ensures.value ∙ ap s_box (omega arith))
-    c.sub-byte-2.ensures.value
-    c.sub-byte-3.ensures.value
-    c.sub-byte-4.ensures.value)
+    (c.sub_byte.ensures.value ∙ ap s_box (omega arith))
+    c.sub_byte-2.ensures.value
+    c.sub_byte-3.ensures.value
+    c.sub_byte-4.ensures.value)

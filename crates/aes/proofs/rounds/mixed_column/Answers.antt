@@ -8,6 +8,6 @@ use Rattle.aes.proofs.rounds.mixed_column.Goals as goal
 pub returns : goal.returns
 returns c =
     mixed_bytes (byte_of c.args.a 0) (byte_of c.args.b 1) (byte_of c.args.c 2) (byte_of c.args.d 3)
-    c.mixed-row0.result c.mixed-row1.result c.mixed-row2.result c.mixed-row3.result c.args.key
-    (c.mixed-row0.ensures ∙ ap (λ (x : ℕ). word_of (2 • s_box x) (s_box x) (s_box x) (3 • s_box x)) (omega arith))
-    c.mixed-row1.ensures c.mixed-row2.ensures c.mixed-row3.ensures
+    c.mixed_row0.result c.mixed_row1.result c.mixed_row2.result c.mixed_row3.result c.args.key
+    (c.mixed_row0.ensures ∙ ap (λ (x : ℕ). word_of (2 • s_box x) (s_box x) (s_box x) (3 • s_box x)) (omega arith))
+    c.mixed_row1.ensures c.mixed_row2.ensures c.mixed_row3.ensures

@@ -25,15 +25,15 @@ more w key n v long stand e =
 pub loop-n-init : goal.loop-n-init
 unfolding schedule
 loop-n-init c =
-    let p = c.key-word-at.ensures in
-    let q = c.key-word-at-2.ensures in
-    let r = c.key-word-at-3.ensures in
-    let s = c.key-word-at-4.ensures in
+    let p = c.key_word_at.ensures in
+    let q = c.key_word_at-2.ensures in
+    let r = c.key_word_at-3.ensures in
+    let s = c.key_word_at-4.ensures in
     ((λ i. p i ∷ q i ∷ r i ∷ s i ∷ []), refl)
 
 pub loop-n-preserved : goal.loop-n-preserved
 loop-n-preserved c = (
-  more c.loop-n.w c.args.key.now c.loop-n.n c.word-at.result (omega arith) c.loop-n.invariant.0 c.word-at.ensures,
+  more c.loop-n.w c.args.key.now c.loop-n.n c.word_at.result (omega arith) c.loop-n.invariant.0 c.word_at.ensures,
   simp length-set c.loop-n.invariant.1,
 )
 

@@ -8,4 +8,4 @@ pub returns : goal.returns
 unfolding block_of
 returns c =
     c.serialise.ensures
-    ∙ ap serialised (c.words-of.ensures ∙ c.final-state.ensures ∙ ap final_state c.initial-state.ensures)
+    ∙ ap serialised (c.words_of.ensures ∙ c.final_state.ensures ∙ ap final_state c.initial_state.ensures)

@@ -6,9 +6,9 @@ pub returns : goal.returns
 unfolding final_state
 returns c =
     simp (
-      c.added-rows.ensures,
-      c.added-rows-2.ensures,
-      c.added-rows-3.ensures,
-      c.added-rows-4.ensures,
-      ← c.twenty-rounds-end.ensures,
+      c.added_rows.ensures,
+      c.added_rows-2.ensures,
+      c.added_rows-3.ensures,
+      c.added_rows-4.ensures,
+      ← c.twenty_rounds-end.ensures,
     )

@@ -13,7 +13,7 @@ loop-i-preserved c =
     let ws = c.args.state in
     let long : 4 * i + 4 ≤ length c.loop-i.bytes = omega arith in
     let inside : i < length ws = omega arith in (
-      rw c.to-le-bytes.ensures (front_set_four c.loop-i.bytes (4 * i) (4 * (i + 1)) _ _ _ _ (omega arith) long
+      rw c.to_le_bytes.ensures (front_set_four c.loop-i.bytes (4 * i) (4 * (i + 1)) _ _ _ _ (omega arith) long
           ∙ ap (λ r. take (4 * i) c.loop-i.bytes ++ r) (sym (bytes_of-four (get_or ws i 0)))
           ∙ ap (λ r. r ++ bytes_of 4 (get_or ws i 0)) c.loop-i.invariant.0
           ∙ sym (serialised_push (take i ws) (get_or ws i 0))

@@ -6,16 +6,16 @@ use Rattle.slices.proofs.LittleLaws.{bytes_of-little}
 use Rattle.chacha.proofs.Fronts.{four_at-bytes}
 use Rattle.chacha.proofs.blocks.word.Goals as goal
 
-value : (c : goal.After-from-le-bytes) → c.from-le-bytes.result ≡ word_at c.args.bytes.now c.args.at
+value : (c : goal.After-from_le_bytes) → c.from_le_bytes.result ≡ word_at c.args.bytes.now c.args.at
 unfolding little
 value c =
-    rw (four_at-bytes c.args.bytes.now c.args.at c.requires) (omega (arith, c.from-le-bytes.ensures))
+    rw (four_at-bytes c.args.bytes.now c.args.at c.requires) (omega (arith, c.from_le_bytes.ensures))
 
 pub returns : goal.returns
 returns c =
     let s = c.args.bytes.now in
     let p = c.args.at in
-    let byte : (i : ℕ) → get_or s i 0 < 256 = λ i. omega (arith, c.type-inv.bytes i) in
+    let byte : (i : ℕ) → get_or s i 0 < 256 = λ i. omega (arith, c.type_inv.bytes i) in
     record {
       value = value c;
       bytes =

@@ -6,8 +6,8 @@ pub returns : goal.returns
 unfolding quarter_round_at diagonal_round
 returns c =
     simp (
-      c.quarter-round-a0.ensures,
-      c.quarter-round-a1.ensures,
-      c.quarter-round-a2.ensures,
-      c.quarter-round-a3.ensures,
+      c.quarter_round-a0.ensures,
+      c.quarter_round-a1.ensures,
+      c.quarter_round-a2.ensures,
+      c.quarter_round-a3.ensures,
     )

@@ -7,8 +7,8 @@ pub returns : goal.returns
 unfolding quarter_round roll
 returns c =
     simp (
-      c.rotate-left-d1.ensures,
-      c.rotate-left-b1.ensures,
-      c.rotate-left-d2.ensures,
-      c.rotate-left-b2.ensures,
+      c.rotate_left-d1.ensures,
+      c.rotate_left-b1.ensures,
+      c.rotate_left-d2.ensures,
+      c.rotate_left-b2.ensures,
     )

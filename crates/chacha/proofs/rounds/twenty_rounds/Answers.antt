@@ -12,4 +12,4 @@ unfolding double_rounds
 loop-i-preserved c = rw add-one (cc)
 
 pub returns : goal.returns
-returns c = let ten : c.loop-i.-i ≡ 10 = omega arith in cc
+returns c = let ten : c.loop-i._i ≡ 10 = omega arith in cc

@@ -5,4 +5,4 @@ use Rattle.chacha.specs.State.{words}
 use Rattle.chacha.proofs.rounds.twenty_rounds.Given as goal
 
 abbrev pub invariant-loop-i : goal.invariant-loop-i
-invariant-loop-i l = words l.s ≡ double_rounds l.-i (words l.initial.s)
+invariant-loop-i l = words l.s ≡ double_rounds l._i (words l.initial.s)

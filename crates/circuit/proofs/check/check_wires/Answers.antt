@@ -10,12 +10,12 @@ pub loop-wire-init : goal.loop-wire-init
 unfolding lowest_fault
 loop-wire-init c = refl
 
-pub returns-in-err-check-wire : goal.returns-in-err-check-wire
-returns-in-err-check-wire c =
-    let p = err_from_is_err_and c.from-residual.result c.from-residual.ensures.1 in
+pub returns-in_err-check_wire : goal.returns-in_err-check_wire
+returns-in_err-check_wire c =
+    let p = err_from_is_err_and c.from_residual.result c.from_residual.ensures.1 in
     rw (p.1, p.2)
-    (lowest_found (rule_of c.args.rule) (wiring_of c.args.circuit.now) c.loop-wire.wire _ _ (omega arith) c.loop-wire.invariant c.in-err-check-wire.ensures)
+    (lowest_found (rule_of c.args.rule) (wiring_of c.args.circuit.now) c.loop-wire.wire _ _ (omega arith) c.loop-wire.invariant c.in_err-check_wire.ensures)
 
 pub loop-wire-preserved : goal.loop-wire-preserved
 loop-wire-preserved c =
-    lowest_here (rule_of c.args.rule) (wiring_of c.args.circuit.now) c.loop-wire.wire None c.loop-wire.invariant c.in-ok-check-wire.ensures
+    lowest_here (rule_of c.args.rule) (wiring_of c.args.circuit.now) c.loop-wire.wire None c.loop-wire.invariant c.in_ok-check_wire.ensures

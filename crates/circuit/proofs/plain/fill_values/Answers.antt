@@ -11,8 +11,8 @@ loop-wire-init c = refl
 pub loop-wire-preserved : goal.loop-wire-preserved
 loop-wire-preserved c =
     simp c.from.ensures
-    (values_step (wiring_of c.args.circuit.now) c.args.inputs.now c.loop-wire.values c.loop-wire.wire c.value-from-value.result
-    (omega arith) c.loop-wire.invariant c.value-from-value.ensures)
+    (values_step (wiring_of c.args.circuit.now) c.args.inputs.now c.loop-wire.values c.loop-wire.wire c.value_from-value.result
+    (omega arith) c.loop-wire.invariant c.value_from-value.ensures)
 
 pub returns : goal.returns
 returns c =

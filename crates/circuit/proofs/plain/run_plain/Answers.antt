@@ -7,11 +7,11 @@ use Rattle.circuit.proofs.plain.run_plain.Goals as goal
 pub returns : goal.returns
 returns c =
     let circuit = wiring_of c.args.circuit.now in
-    let values = c.fill-values.ensures in
-    let outputs = c.pick-outputs.ensures in
+    let values = c.fill_values.ensures in
+    let outputs = c.pick_outputs.ensures in
     record {
       fault = rooms_fit circuit _ _ (search rules) (search rules);
       values = values;
       outputs = outputs ∙ ap (at_outputs circuit) values;
-      run = λ _. plain_run_of circuit c.args.inputs.now c.fill-values.new.values c.pick-outputs.new.outputs values outputs;
+      run = λ _. plain_run_of circuit c.args.inputs.now c.fill_values.new.values c.pick_outputs.new.outputs values outputs;
     }

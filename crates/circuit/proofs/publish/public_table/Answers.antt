@@ -7,12 +7,12 @@ use Rattle.circuit.proofs.publish.public_table.Goals as goal
 
 pub returns : goal.returns
 returns c =
-    let n = c.to-le-bytes.ensures in
-    let m = c.to-le-bytes-2.ensures in
+    let n = c.to_le_bytes.ensures in
+    let m = c.to_le_bytes-2.ensures in
     let circuit = wiring_of c.args.circuit.now in
     let written =
-    four_and_rest c.args.table.now c.write-arrays.new.arrays _ _ _ _ (omega arith)
-    ∙ (λ i. get_or (n i) 0 0 ∷ get_or (n i) 1 0 ∷ get_or (m i) 0 0 ∷ get_or (m i) 1 0 ∷ c.write-arrays.ensures i) in
+    four_and_rest c.args.table.now c.write_arrays.new.arrays _ _ _ _ (omega arith)
+    ∙ (λ i. get_or (n i) 0 0 ∷ get_or (n i) 1 0 ∷ get_or (m i) 0 0 ∷ get_or (m i) 1 0 ∷ c.write_arrays.ensures i) in
     record {
       fault = search rules;
       table = written;

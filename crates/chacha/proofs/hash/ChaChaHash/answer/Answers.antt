@@ -8,6 +8,6 @@ use Rattle.chacha.proofs.hash.ChaChaHash.answer.Goals as goal
 pub returns : goal.returns
 unfolding answer_of block_of final_state
 returns c =
-    let rest = drop 4 (added (words c.twenty-rounds-end.result) (words c.start-start.result)) in
-    c.read-row.ensures rest
-    ∙ simp (c.added-rows.ensures, ← c.start-start.ensures, ← c.twenty-rounds-end.ensures)
+    let rest = drop 4 (added (words c.twenty_rounds-end.result) (words c.start-start.result)) in
+    c.read_row.ensures rest
+    ∙ simp (c.added_rows.ensures, ← c.start-start.ensures, ← c.twenty_rounds-end.ensures)
