@@ -15,24 +15,24 @@ pub returns : goal.returns
 returns g c =
     let a = c.args in
     let f = g.H.Hash.function a.hash.now in
-    let gate = c.garble-gate-gate.result in
-    let gate_is = c.garble-gate-gate.ensures.value in
+    let gate = c.garble_gate-gate.result in
+    let gate_is = c.garble_gate-gate.ensures.value in
     let value =
-    c.evaluate-bits-output.ensures.value
-    ∙ (λ i. evaluated_gate (c.garble-gate-gate.ensures.kept i) a.parity gate.ciphertexts gate.controls (shifted halves a.delta a.first a.u) (shifted halves a.delta a.second a.v) a.tweak) in
+    c.evaluate_bits-output.ensures.value
+    ∙ (λ i. evaluated_gate (c.garble_gate-gate.ensures.kept i) a.parity gate.ciphertexts gate.controls (shifted halves a.delta a.first a.u) (shifted halves a.delta a.second a.v) a.tweak) in
     record {
       gate = gate_is;
       value = value;
       right = λ fits odd.
           value
           ∙ (λ i. evaluated_gate f a.parity (gate_is i).ciphertexts (gate_is i).controls (shifted halves a.delta a.first a.u) (shifted halves a.delta a.second a.v) a.tweak)
-          ∙ gate_computes f a.parity a.truth-table a.dice fits a.delta a.first a.second odd a.tweak a.u a.v
-          ∙ (λ i. shifted halves a.delta (sym gate_is i).label (truth a.truth-table a.u a.v));
-      kept = c.evaluate-bits-output.ensures.kept ∙ c.garble-gate-gate.ensures.kept;
+          ∙ gate_computes f a.parity a.truth_table a.dice fits a.delta a.first a.second odd a.tweak a.u a.v
+          ∙ (λ i. shifted halves a.delta (sym gate_is i).label (truth a.truth_table a.u a.v));
+      kept = c.evaluate_bits-output.ensures.kept ∙ c.garble_gate-gate.ensures.kept;
       asked =
           asked_append g.H.Hash.asks (gate_questions a.delta a.first a.second a.tweak)
           (three_questions (shifted halves a.delta a.first a.u) (shifted halves a.delta a.second a.v) a.tweak) a.hash.now
-          c.garble-gate-gate.new.hash c.evaluate-bits-output.new.hash c.garble-gate-gate.ensures.asked c.evaluate-bits-output.ensures.asked;
+          c.garble_gate-gate.new.hash c.evaluate_bits-output.new.hash c.garble_gate-gate.ensures.asked c.evaluate_bits-output.ensures.asked;
       allowed = allowed_suits;
       seen = gate_seen;
       blind = gate_blind;

@@ -14,7 +14,7 @@ returns g c =
     let laws : Laws (group xor.plus xor.nought) =
     laws_of xor.plus xor.nought met.assoc met.comm met.neutral met.inverse in
     record {
-      value = c.added-back.ensures;
+      value = c.added_back.ensures;
       space = gate_space _ laws;
       law = gate_law _ laws;
       controls = control_law _ laws;
