@@ -2,4 +2,4 @@ use Rattle.form.proofs.Backs.{form_back}
 use Rattle.form.proofs.form_length.Goals as goal
 
 pub returns : goal.returns
-returns c = record { value = c.parts-length.ensures; back = form_back }
+returns c = record { value = c.parts_length.ensures; back = form_back }
