@@ -140,7 +140,7 @@ impl<'a> CheckedForm<'a> {
     // A mark of those that begin at a place, zero past the last output.
     fn mark_from(&self, from: u32, output: u16) -> Mark
         requires { from < 2 ^ 24 }
-        ensures { result ≡ (if nat_lt output (outputs_stated self.now.bytes.now) then label_at self.now.bytes.now (from + 16 * output) else 0, 0) }
+        ensures { result ≡ (if nat_lt output (outputs_stated self.now.bytes.now) then label_at self.now.bytes.now (from + 16 * output) else (0, 0)) }
     {
         if output >= self.outputs() {
             return (0, 0);

@@ -79,7 +79,7 @@ pub(crate) fn evaluate_wires<H: Hash>(
     requires { length words.old ≡ 2 * circuit.now.wires }
     ensures labels { Evaluates (wiring_of circuit.now) form.now.bytes.now (H.function hash.old) words.old words.new }
     ensures kept { H.function hash.new ≡ H.function hash.old }
-    ensures asked { EvaluateAsked asks (wiring_of circuit.now) form.now.bytes.now (H.function hash.old) words.old hash.old hash.new }
+    ensures asked { EvaluateAsked H.asks (wiring_of circuit.now) form.now.bytes.now (H.function hash.old) words.old hash.old hash.new }
 {
     let mut gate = 0;
     for wire in 0..circuit.wires {

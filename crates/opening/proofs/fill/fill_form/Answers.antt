@@ -19,24 +19,24 @@ returns g c =
     let circuit : Wiring = wiring_of c.args.circuit.now in
     let T : List ℕ = c.args.drawn.now in
     let f : HashFunction = g.H.Hash.function c.args.hash.now in
-    let f' : HashFunction = g.H.Hash.function c.garble-wires.new.hash in
-    let same : f' ≡ f = c.garble-wires.ensures.kept in
-    let offset : c.draw-offset.result ≡ offset_in T = c.draw-offset.ensures in
-    let ls : List Label = labels_kept c.garble-wires.new.work circuit.wires in
-    let labels : ls ≡ falses_of circuit T f = c.garble-wires.ensures.labels in
-    let marked : c.mark-outputs.new.marks ≡ mark_bytes (marks_sent circuit T f false) (marks_sent circuit T f true) =
-    c.mark-outputs.ensures.marks
+    let f' : HashFunction = g.H.Hash.function c.garble_wires.new.hash in
+    let same : f' ≡ f = c.garble_wires.ensures.kept in
+    let offset : c.draw_offset.result ≡ offset_in T = c.draw_offset.ensures in
+    let ls : List Label = labels_kept c.garble_wires.new.work circuit.wires in
+    let labels : ls ≡ falses_of circuit T f = c.garble_wires.ensures.labels in
+    let marked : c.mark_outputs.new.marks ≡ mark_bytes (marks_sent circuit T f false) (marks_sent circuit T f true) =
+    c.mark_outputs.ensures.marks
     ∙ (λ i. mark_bytes (marks_of circuit (same i) (offset i) (labels i) false) (marks_of circuit (same i) (offset i) (labels i) true)) in
     record {
-      form = form_filled circuit T f c.args.garbled c.args.outputs _ _ c.write-public.new.form c.garble-wires.new.gates
-          c.mark-outputs.new.marks c.requires.gates c.requires.marks c.write-public.ensures.front (c.write-public.ensures.len ∙ c.requires.room)
-          c.garble-wires.ensures.gates marked refl refl;
-      equal = c.mark-outputs.ensures.equal ∙ (λ i. first_of (equal_below circuit (same i) (offset i) (labels i) circuit.wires));
+      form = form_filled circuit T f c.args.garbled c.args.outputs _ _ c.write_public.new.form c.garble_wires.new.gates
+          c.mark_outputs.new.marks c.requires.gates c.requires.marks c.write_public.ensures.front (c.write_public.ensures.len ∙ c.requires.room)
+          c.garble_wires.ensures.gates marked refl refl;
+      equal = c.mark_outputs.ensures.equal ∙ (λ i. first_of (equal_below circuit (same i) (offset i) (labels i) circuit.wires));
       labels = labels;
-      words = c.garble-wires.ensures.words;
-      kept = c.mark-outputs.ensures.kept ∙ same;
+      words = c.garble_wires.ensures.words;
+      kept = c.mark_outputs.ensures.kept ∙ same;
       asked = asked_append g.H.Hash.asks (garble_asks circuit T f) (marks_ask circuit (offset_in T) (falses_of circuit T f))
-          c.args.hash.now c.garble-wires.new.hash c.mark-outputs.new.hash c.garble-wires.ensures.asked
-          (subst (λ qs. Asked g.H.Hash.asks qs c.garble-wires.new.hash c.mark-outputs.new.hash)
-          (λ i. marks_ask circuit (offset i) (labels i)) c.mark-outputs.ensures.asked);
+          c.args.hash.now c.garble_wires.new.hash c.mark_outputs.new.hash c.garble_wires.ensures.asked
+          (subst (λ qs. Asked g.H.Hash.asks qs c.garble_wires.new.hash c.mark_outputs.new.hash)
+          (λ i. marks_ask circuit (offset i) (labels i)) c.mark_outputs.ensures.asked);
     }

@@ -4,5 +4,5 @@ use Rattle.opening.proofs.fill.fill_store.Goals as goal
 
 pub returns : goal.returns
 returns c =
-    two_and_rest c.args.store.now c.copy-from-slice.new.self c.args.delta.0 c.args.delta.1 (omega arith)
-    ∙ ap (λ xs. c.args.delta.0 ∷ c.args.delta.1 ∷ xs) c.copy-from-slice.ensures.after
+    two_and_rest c.args.store.now c.copy_from_slice.new.self c.args.delta.0 c.args.delta.1 (omega arith)
+    ∙ ap (λ xs. c.args.delta.0 ∷ c.args.delta.1 ∷ xs) c.copy_from_slice.ensures.after

@@ -20,7 +20,7 @@ returns c =
     let wide : length (public_arrays circuit) ≡ 5 * n = length-map-range_with_len (public_byte circuit) 0 (5 * n) in
     let part : 8 + 5 * n - 8 ≡ 5 * n = omega arith in
     let written : _ ≡ put_mid 8 (5 * n) before (public_arrays circuit) =
-    λ i. put_mid 8 (part i) (c.write-sizes.ensures i ++ drop 8 c.args.form.now) (c.write-arrays.ensures i) in
+    λ i. put_mid 8 (part i) (c.write_sizes.ensures i ++ drop 8 c.args.form.now) (c.write_arrays.ensures i) in
     let room = c.requires in
     record {
       front = ap (take (8 + 5 * n)) written ∙ front_more 8 (5 * n) before (public_arrays circuit) sizes refl (omega (arith, long, room)) wide;

@@ -24,15 +24,15 @@ loop-wire-preserved g c =
     let f : HashFunction = g.H.Hash.function c.args.hash.now in
     let T : List ℕ = c.args.drawn.now in
     let inv = c.loop-wire.invariant in
-    let step = c.garble-step-next.ensures in (
-      garbled_more circuit T f c.args.garbled c.loop-wire.wire c.loop-wire.next c.garble-step-next.result
-          c.loop-wire.work c.garble-step-next.new.work c.loop-wire.gates c.garble-step-next.new.gates
+    let step = c.garble_step-next.ensures in (
+      garbled_more circuit T f c.args.garbled c.loop-wire.wire c.loop-wire.next c.garble_step-next.result
+          c.loop-wire.work c.garble_step-next.new.work c.loop-wire.gates c.garble_step-next.new.gates
           (g.H.Hash.function c.loop-wire.hash) inv.3 inv.0 step.next step.labels step.rows,
       step.words ∙ inv.1,
       step.bytes ∙ inv.2,
       step.kept ∙ inv.3,
       asked_more circuit T f g.H.Hash.asks c.loop-wire.wire c.loop-wire.work c.args.hash.now c.loop-wire.hash
-          c.garble-step-next.new.hash inv.0.1 inv.4 step.asked,
+          c.garble_step-next.new.hash inv.0.1 inv.4 step.asked,
     )
 
 pub returns : goal.returns

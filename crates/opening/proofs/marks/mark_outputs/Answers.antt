@@ -24,14 +24,14 @@ loop-wire-preserved g c =
     let f : HashFunction = g.H.Hash.function c.args.hash.now in
     let ls : List Label = labels_kept c.args.work.now circuit.wires in
     let inv = c.loop-wire.invariant in
-    let step = c.mark-step-so-far.ensures in (
-      marked_more circuit f c.args.delta ls c.args.outputs c.loop-wire.wire c.loop-wire.so_far.next c.mark-step-so-far.result.next
-          c.loop-wire.so_far.equal c.mark-step-so-far.result.equal c.loop-wire.marks c.mark-step-so-far.new.marks
+    let step = c.mark_step-so_far.ensures in (
+      marked_more circuit f c.args.delta ls c.args.outputs c.loop-wire.wire c.loop-wire.so_far.next c.mark_step-so_far.result.next
+          c.loop-wire.so_far.equal c.mark_step-so_far.result.equal c.loop-wire.marks c.mark_step-so_far.new.marks
           (g.H.Hash.function c.loop-wire.hash) inv.2 inv.0 step.next step.equal step.rows,
       step.bytes ∙ inv.1,
       step.kept ∙ inv.2,
       marks_asked_more circuit f c.args.delta ls g.H.Hash.asks c.loop-wire.wire c.args.hash.now c.loop-wire.hash
-          c.mark-step-so-far.new.hash inv.3 step.asked,
+          c.mark_step-so_far.new.hash inv.3 step.asked,
     )
 
 pub returns : goal.returns

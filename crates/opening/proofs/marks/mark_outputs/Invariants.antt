@@ -8,7 +8,7 @@ use Rattle.opening.proofs.marks.mark_outputs.Given as goal
 abbrev pub invariant-loop-wire : goal.invariant-loop-wire
 invariant-loop-wire g l =
     MarkedTo (wiring_of l.circuit) (g.H.Hash.function l.initial.hash) l.delta (labels_kept l.work l.circuit.wires)
-    l.outputs l.wire l.so-far.next l.so-far.equal l.marks
+    l.outputs l.wire l.so_far.next l.so_far.equal l.marks
     × (length l.marks ≡ 32 * l.outputs)
     × (g.H.Hash.function l.hash ≡ g.H.Hash.function l.initial.hash)
     × Asked g.H.Hash.asks

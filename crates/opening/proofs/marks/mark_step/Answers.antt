@@ -13,16 +13,16 @@ use Rattle.opening.proofs.WireSteps.{count_stays, count_rises, has_place, with_m
 use Rattle.opening.proofs.SoMarked.{none_found, marks_are, found_is, asks_are}
 use Rattle.opening.proofs.marks.mark_step.Goals as goal
 
-pub returns-then-not-is-output : goal.returns-then-not-is-output
-returns-then-not-is-output g c =
+pub returns-then-not-is_output : goal.returns-then-not-is_output
+returns-then-not-is_output g c =
     let circuit : Wiring = wiring_of c.args.circuit.now in
     let f : HashFunction = g.H.Hash.function c.args.hash.now in
     let ls : List Label = labels_kept c.args.work.now circuit.wires in
     let w : ℕ = c.args.wire in
-    let passed = sym c.if-not-is-output.ensures in
+    let passed = sym c.if-not-is_output.ensures in
     record {
-      next = count_stays (is_output circuit) w c.args.so-far.next c.requires.index passed;
-      equal = none_found circuit f c.args.delta ls w c.args.so-far.equal passed;
+      next = count_stays (is_output circuit) w c.args.so_far.next c.requires.index passed;
+      equal = none_found circuit f c.args.delta ls w c.args.so_far.equal passed;
       rows = λ ps long so_far.
           with_none (λ is. Rows false_bytes true_bytes (16 * c.args.outputs) is c.args.marks.now) (is_output circuit w) ps
           (marks_at circuit f c.args.delta ls w) passed so_far;
@@ -32,18 +32,18 @@ returns-then-not-is-output g c =
           (sym (cond-false (is_output circuit w) (marks_ask_at circuit c.args.delta ls w) [] passed)) refl;
     }
 
-pub write-marks-requires : goal.write-marks-requires
-write-marks-requires g c =
+pub write_marks-requires : goal.write_marks-requires
+write_marks-requires g c =
     let circuit : Wiring = wiring_of c.args.circuit.now in
-    let picked = sym c.if-not-is-output.ensures in
-    let place = has_place (is_output circuit) c.args.wire c.args.so-far.next c.requires.index circuit.wires picked c.requires.within in
+    let picked = sym c.if-not-is_output.ensures in
+    let place = has_place (is_output circuit) c.args.wire c.args.so_far.next c.requires.index circuit.wires picked c.requires.within in
     record { place = omega (arith, place, c.requires.all); bytes = c.requires.bytes }
 
-pub overflow-add-result : goal.overflow-add-result
-overflow-add-result g c =
+pub overflow_add-result : goal.overflow_add-result
+overflow_add-result g c =
     let circuit : Wiring = wiring_of c.args.circuit.now in
-    let picked = sym c.if-not-is-output.ensures in
-    let place = has_place (is_output circuit) c.args.wire c.args.so-far.next c.requires.index circuit.wires picked c.requires.within in
+    let picked = sym c.if-not-is_output.ensures in
+    let place = has_place (is_output circuit) c.args.wire c.args.so_far.next c.requires.index circuit.wires picked c.requires.within in
     let fits = c.ranges.outputs.fits in
     omega (arith, place, c.requires.all, fits)
 
@@ -54,19 +54,19 @@ returns g c =
     let Δ : Label = c.args.delta in
     let ls : List Label = labels_kept c.args.work.now circuit.wires in
     let w : ℕ = c.args.wire in
-    let pair : MarkPair = c.query-marks.result in
-    let picked = sym c.if-not-is-output.ensures in
+    let pair : MarkPair = c.query_marks.result in
+    let picked = sym c.if-not-is_output.ensures in
     let are : pair ≡ marks_at circuit f Δ ls w =
-    marks_are circuit f Δ ls w c.label-below-label.result pair c.label-below-label.ensures c.query-marks.ensures.value in
+    marks_are circuit f Δ ls w c.label_below-label.result pair c.label_below-label.ensures c.query_marks.ensures.value in
     record {
-      next = count_rises (is_output circuit) w c.args.so-far.next c.requires.index picked;
-      equal = found_is circuit f Δ ls w pair c.same-mark.result c.args.so-far.equal c.first-equal.result picked are
-          c.same-mark.ensures c.first-equal.ensures;
+      next = count_rises (is_output circuit) w c.args.so_far.next c.requires.index picked;
+      equal = found_is circuit f Δ ls w pair c.same_mark.result c.args.so_far.equal c.first_equal.result picked are
+          c.same_mark.ensures c.first_equal.ensures;
       rows = λ ps long so_far.
-          with_more (λ is. Rows false_bytes true_bytes (16 * c.args.outputs) is c.write-marks.new.marks) (is_output circuit w) ps
-          pair (marks_at circuit f Δ ls w) picked are (c.write-marks.ensures.rows ps long so_far);
-      bytes = c.write-marks.ensures.len;
-      kept = c.query-marks.ensures.kept;
-      asked = subst (λ qs. Asked g.H.Hash.asks qs c.args.hash.now c.query-marks.new.hash)
-          (asks_are circuit Δ ls w c.label-below-label.result picked c.label-below-label.ensures) c.query-marks.ensures.asked;
+          with_more (λ is. Rows false_bytes true_bytes (16 * c.args.outputs) is c.write_marks.new.marks) (is_output circuit w) ps
+          pair (marks_at circuit f Δ ls w) picked are (c.write_marks.ensures.rows ps long so_far);
+      bytes = c.write_marks.ensures.len;
+      kept = c.query_marks.ensures.kept;
+      asked = subst (λ qs. Asked g.H.Hash.asks qs c.args.hash.now c.query_marks.new.hash)
+          (asks_are circuit Δ ls w c.label_below-label.result picked c.label_below-label.ensures) c.query_marks.ensures.asked;
     }

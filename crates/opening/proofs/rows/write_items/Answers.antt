@@ -12,7 +12,7 @@ returns c =
     let later : ℕ = c.args.later in
     let wide : (n : ℕ) (zs : List ℕ) → n + length zs - n ≡ length zs = λ n zs. omega arith in
     let written : _ ≡ both_written bs xs ys at later (omega arith) (omega arith) =
-    λ i. put_mid later (wide later ys i) (put_mid at (wide at xs i) bs (c.copy-from-slice.ensures.after i)) (c.copy-from-slice-2.ensures.after i) in
+    λ i. put_mid later (wide later ys i) (put_mid at (wide at xs i) bs (c.copy_from_slice.ensures.after i)) (c.copy_from_slice-2.ensures.after i) in
     record {
       first = ap (take (at + length xs)) written ∙ first_written bs xs ys at later (omega arith) (omega arith);
       second = λ base past before.

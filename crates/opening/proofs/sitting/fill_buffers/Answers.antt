@@ -10,16 +10,16 @@ pub returns-in-None : goal.returns-in-None
 unfolding opened_store
 returns-in-None g c =
     let circuit : Wiring = wiring_of c.args.circuit.now in
-    let ws : List ℕ = c.fill-form.new.work in
-    let filled = c.fill-form.ensures in
+    let ws : List ℕ = c.fill_form.new.work in
+    let filled = c.fill_form.ensures in
     record {
       equal = c.in-None.ensures.equal;
       form = filled.form;
-      store = c.fill-store.ensures
-          ∙ (λ i. label_words (c.draw-offset.ensures i)
+      store = c.fill_store.ensures
+          ∙ (λ i. label_words (c.draw_offset.ensures i)
           ++ stored ws circuit.inputs circuit.wires _ filled.labels c.requires.inputs
           (let words = c.requires.words in let long = filled.words in omega (arith, words, long)) i);
-      sheet = c.fill-sheet.ensures;
+      sheet = c.fill_sheet.ensures;
       ledger = c.fill.ensures;
       kept = filled.kept;
       asked = filled.asked;

@@ -12,8 +12,8 @@ returns g c =
     let circuit : Wiring = table_wiring c.args.table.now in
     let T : List ℕ = drawn_for circuit c.args.tape.now.bytes.now c.args.tape.now.place in
     let f : HashFunction = g.H.Hash.function c.args.hash.now in
-    let opened = c.open-wiped.ensures in
-    let byte : (i : ℕ) → _ = c.type-inv.table in
+    let opened = c.open_wiped.ensures in
+    let byte : (i : ℕ) → _ = c.type_inv.table in
     record {
       fault = opened.fault;
       sitting = opened.sitting;
@@ -26,7 +26,7 @@ returns g c =
       work = opened.work;
       kept = opened.kept;
       asked = opened.asked;
-      shows = shows_public c.open-wiped.result circuit T f c.open-wiped.new.form (zeros c.args.form.now) c.args.form.now
+      shows = shows_public c.open_wiped.result circuit T f c.open_wiped.new.form (zeros c.args.form.now) c.args.form.now
           (omega (arith, byte 0, byte 1)) (omega (arith, byte 2, byte 3)) opened.form;
       alike = open_alike;
       colours = colours_differ;

@@ -17,9 +17,9 @@ returns g c =
     let tape : List ℕ = c.args.tape.now.bytes.now in
     let place : ℕ = c.args.tape.now.place in
     let f : HashFunction = g.H.Hash.function c.args.hash.now in
-    let circuit : Wiring = wiring_of c.in-ok-table.table.circuit in
-    let checked = c.in-ok-table.ensures in
-    let opened = c.in-ok-open-guarded.ensures in
+    let circuit : Wiring = wiring_of c.in_ok-table.table.circuit in
+    let checked = c.in_ok-table.ensures in
+    let opened = c.in_ok-open_guarded.ensures in
     let same : circuit ≡ table_wiring s = checked.holds.0 in
     let room : Room = record { form = length c.args.form.now; store = length c.args.store.now; sheet = length c.args.sheet.now; work = length c.args.work.now } in
     let side : ltb c.args.side sides ≡ true = lt-ltb c.args.side sides (search rules) in
@@ -36,5 +36,5 @@ returns g c =
       ledger = opened.ledger ∙ ap (opened_ledger c.args.side) same;
       words = search rules;
       kept = opened.kept;
-      asked = subst (λ w. Asked g.H.Hash.asks (open_asks w (drawn_for w tape place) f) c.args.hash.now c.open-guarded.new.hash) same opened.asked;
+      asked = subst (λ w. Asked g.H.Hash.asks (open_asks w (drawn_for w tape place) f) c.args.hash.now c.open_guarded.new.hash) same opened.asked;
     }

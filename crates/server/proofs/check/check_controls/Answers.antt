@@ -11,13 +11,13 @@ pub loop-wire-init : goal.loop-wire-init
 unfolding wires_where
 loop-wire-init c = (lowest_start 14 _, (refl, omega arith))
 
-pub returns-then-controls-wrong : goal.returns-then-controls-wrong
-returns-then-controls-wrong c =
+pub returns-then-controls_wrong : goal.returns-then-controls_wrong
+returns-then-controls_wrong c =
     let circuit = wiring_of c.args.circuit.now in
     let F = c.args.form.now.bytes.now in
     let wrong : ℕ → Bool = λ w. controls_wrong circuit F w (gate_index circuit w) in
     let w = c.loop-wire.wire in
-    let here = sym (ap (λ k. controls_wrong circuit F w k) c.loop-wire.invariant.1.0) ∙ sym c.if-controls-wrong.ensures in
+    let here = sym (ap (λ k. controls_wrong circuit F w k) c.loop-wire.invariant.1.0) ∙ sym c.if-controls_wrong.ensures in
     lowest_found 14 wrong w c.args.circuit.now.wires _ (omega arith) c.loop-wire.invariant.0 here c.from.ensures
 
 pub loop-wire-preserved : goal.loop-wire-preserved
@@ -26,7 +26,7 @@ loop-wire-preserved c =
     let F = c.args.form.now.bytes.now in
     let wrong : ℕ → Bool = λ w. controls_wrong circuit F w (gate_index circuit w) in
     let w = c.loop-wire.wire in
-    let here = sym (ap (λ k. controls_wrong circuit F w k) c.loop-wire.invariant.1.0) ∙ sym c.if-controls-wrong.ensures in (
+    let here = sym (ap (λ k. controls_wrong circuit F w k) c.loop-wire.invariant.1.0) ∙ sym c.if-controls_wrong.ensures in (
       lowest_passed 14 wrong w c.loop-wire.invariant.0 here,
       count_step (is_garbled circuit) w c.loop-wire.gate _ c.loop-wire.invariant.1 (search rules),
     )

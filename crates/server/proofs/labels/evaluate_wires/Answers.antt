@@ -31,14 +31,14 @@ loop-wire-preserved g c =
     let gate = c.loop-wire.gate in
     let ws = c.loop-wire.words in
     let kept =
-    c.evaluate-next.ensures.words
+    c.evaluate_next.ensures.words
     ∙ ap (λ fn. keeping ws w (met_with circuit fn (sent_at F gate) (kept_at ws w) (labels_kept ws w) w)) c.loop-wire.invariant.1 in (
       count_step (is_garbled circuit) w gate _ c.loop-wire.invariant.0 (search rules),
-      c.evaluate-next.ensures.kept ∙ c.loop-wire.invariant.1,
+      c.evaluate_next.ensures.kept ∙ c.loop-wire.invariant.1,
       λ xs held.
-          met_step g.H.Hash.asks circuit F f xs w gate c.args.hash.now c.loop-wire.hash c.evaluate-next.new.hash
-          c.args.words.now ws c.evaluate-next.new.words held (omega arith) (c.loop-wire.auto.words ∙ c.requires)
-          c.loop-wire.invariant.0.0 (c.loop-wire.invariant.2 xs held) kept c.evaluate-next.ensures.asked,
+          met_step g.H.Hash.asks circuit F f xs w gate c.args.hash.now c.loop-wire.hash c.evaluate_next.new.hash
+          c.args.words.now ws c.evaluate_next.new.words held (omega arith) (c.loop-wire.auto.words ∙ c.requires)
+          c.loop-wire.invariant.0.0 (c.loop-wire.invariant.2 xs held) kept c.evaluate_next.ensures.asked,
     )
 
 pub returns : goal.returns

@@ -10,11 +10,11 @@ use Rattle.server.proofs.labels.take_labels.Goals as goal
 pub loop-wire-init : goal.loop-wire-init
 loop-wire-init c = (lowest_start 37 _, λ k below none. absurd (omega arith))
 
-pub returns-in-err-label : goal.returns-in-err-label
-returns-in-err-label c =
-    let p = err_from_is_err_and c.from-residual.result c.from-residual.ensures.1 in
+pub returns-in_err-label : goal.returns-in_err-label
+returns-in_err-label c =
+    let p = err_from_is_err_and c.from_residual.result c.from_residual.ensures.1 in
     let missing : ℕ → Bool = λ w. not (is_some (own_label (wiring_of c.args.circuit.now) (sheets_of c.args.sheets.now) w)) in
-    let none = c.in-err-label.ensures in
+    let none = c.in_err-label.ensures in
     rw (p.1, p.2)
     record {
       fault =
@@ -29,10 +29,10 @@ loop-wire-preserved c =
     let circuit = wiring_of c.args.circuit.now in
     let sheets = sheets_of c.args.sheets.now in
     let missing : ℕ → Bool = λ w. not (is_some (own_label circuit sheets w)) in
-    let own = c.in-ok-label.ensures in (
+    let own = c.in_ok-label.ensures in (
       lowest_passed 37 missing c.loop-wire.wire c.loop-wire.invariant.0 (ap (λ o. not (is_some o)) own),
-      taken_more circuit sheets c.loop-wire.words _ c.loop-wire.wire c.in-ok-label.label (c.loop-wire.auto.words ∙ c.requires)
-          c.loop-wire.invariant.1 own c.keep-label.ensures,
+      taken_more circuit sheets c.loop-wire.words _ c.loop-wire.wire c.in_ok-label.label (c.loop-wire.auto.words ∙ c.requires)
+          c.loop-wire.invariant.1 own c.keep_label.ensures,
     )
 
 pub returns : goal.returns

@@ -8,7 +8,7 @@ use Rattle.garbling.specs.Marks.{mark_of, mark_questions}
 use Rattle.garbling.specs.Words.{labels_kept, keeping}
 use Rattle.server.proofs.Decoded.{marked_start, marked_left, marked_taken}
 use Rattle.server.proofs.outputs.ask_marks.Goals as goal
-use Rattle.server.proofs.outputs.ask_marks.Goals.{then-is-output, else-is-output}
+use Rattle.server.proofs.outputs.ask_marks.Goals.{then-is_output, else-is_output}
 
 pub loop-wire-init : goal.loop-wire-init
 loop-wire-init g c = (
@@ -25,18 +25,18 @@ loop-wire-preserved g c =
     let ls = labels_kept c.args.words.now n in
     let wire = c.loop-wire.wire in
     let ws = c.loop-wire.words in
-    elim c.if-is-output.branch [
-      | then-is-output w ↦ (
-        ap g.H.Hash.function w.hash-is ∙ w.ask-mark.ensures.kept ∙ c.loop-wire.invariant.0,
-        marked_taken g.H.Hash.asks circuit f ls wire c.args.hash.now c.loop-wire.hash c.if-is-output.hash ws c.if-is-output.words
-            (sym w.if-is-output.ensures) (omega arith) (c.loop-wire.auto.words ∙ c.requires) c.loop-wire.invariant.1
-            (w.words-is ∙ w.ask-mark.ensures.words ∙ ap (λ fn. keeping ws wire (mark_of fn n wire (label_in (labels_kept ws n) wire))) c.loop-wire.invariant.0)
-            (subst (λ h. Asked g.H.Hash.asks (mark_questions n wire (label_in (labels_kept ws n) wire)) c.loop-wire.hash h) (sym w.hash-is) w.ask-mark.ensures.asked),
+    elim c.if-is_output.branch [
+      | then-is_output w ↦ (
+        ap g.H.Hash.function w.hash-is ∙ w.ask_mark.ensures.kept ∙ c.loop-wire.invariant.0,
+        marked_taken g.H.Hash.asks circuit f ls wire c.args.hash.now c.loop-wire.hash c.if-is_output.hash ws c.if-is_output.words
+            (sym w.if-is_output.ensures) (omega arith) (c.loop-wire.auto.words ∙ c.requires) c.loop-wire.invariant.1
+            (w.words-is ∙ w.ask_mark.ensures.words ∙ ap (λ fn. keeping ws wire (mark_of fn n wire (label_in (labels_kept ws n) wire))) c.loop-wire.invariant.0)
+            (subst (λ h. Asked g.H.Hash.asks (mark_questions n wire (label_in (labels_kept ws n) wire)) c.loop-wire.hash h) (sym w.hash-is) w.ask_mark.ensures.asked),
       )
-      | else-is-output w ↦ (
+      | else-is_output w ↦ (
         ap g.H.Hash.function w.hash-is ∙ c.loop-wire.invariant.0,
-        marked_left g.H.Hash.asks circuit f ls wire c.args.hash.now c.loop-wire.hash c.if-is-output.hash ws c.if-is-output.words
-            (sym w.if-is-output.ensures) c.loop-wire.invariant.1 w.words-is w.hash-is,
+        marked_left g.H.Hash.asks circuit f ls wire c.args.hash.now c.loop-wire.hash c.if-is_output.hash ws c.if-is_output.words
+            (sym w.if-is_output.ensures) c.loop-wire.invariant.1 w.words-is w.hash-is,
       )
     ]
 

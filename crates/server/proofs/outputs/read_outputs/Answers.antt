@@ -11,12 +11,12 @@ returns g c =
     let F = c.args.form.now.bytes.now in
     let f = g.H.Hash.function c.args.hash.now in
     let ls = labels_kept c.args.words.now c.args.circuit.now.wires in
-    let ws = c.ask-marks.new.words in
-    let marks = c.ask-marks.ensures.marks in
-    let r = c.decide-outputs.result in
+    let ws = c.ask_marks.new.words in
+    let marks = c.ask_marks.ensures.marks in
+    let r = c.decide_outputs.result in
     record {
-      fault = subst (Finds r) (fault_same circuit F f ls ws marks) c.decide-outputs.ensures.fault;
-      outputs = c.decide-outputs.ensures.outputs ∙ ap (λ bs. cond (is_ok r) bs c.args.outputs.now) (bytes_same circuit F f ls ws marks);
-      kept = c.ask-marks.ensures.kept;
-      asked = c.ask-marks.ensures.asked;
+      fault = subst (Finds r) (fault_same circuit F f ls ws marks) c.decide_outputs.ensures.fault;
+      outputs = c.decide_outputs.ensures.outputs ∙ ap (λ bs. cond (is_ok r) bs c.args.outputs.now) (bytes_same circuit F f ls ws marks);
+      kept = c.ask_marks.ensures.kept;
+      asked = c.ask_marks.ensures.asked;
     }

@@ -21,22 +21,22 @@ returns g c =
     let sheets = sheets_of c.args.sheets.now in
     let xs = inputs_on circuit sheets in
     let ls = labels_met circuit F f sheets in
-    let held = c.in-ok-take-labels.ensures.labels in
-    let kept = c.evaluate-wires.ensures.kept in
-    let met : labels_kept c.evaluate-wires.new.words c.args.circuit.now.wires ≡ ls = c.evaluate-wires.ensures.labels xs held in
+    let held = c.in_ok-take_labels.ensures.labels in
+    let kept = c.evaluate_wires.ensures.kept in
+    let met : labels_kept c.evaluate_wires.new.words c.args.circuit.now.wires ≡ ls = c.evaluate_wires.ensures.labels xs held in
     let on = go_on (lengths_fault circuit sheets (length c.args.work.now) (length c.args.outputs.now)) (sheets_fault circuit sheets) (missing_fault circuit sheets)
     (neither_fault circuit F f ls) (evaluate_asks circuit f (gates_in F) xs ++ output_asks circuit ls)
-    c.in-ok-check-lengths.ensures c.in-ok-check.ensures c.in-ok-take-labels.ensures.fault in
+    c.in_ok-check_lengths.ensures c.in_ok-check.ensures c.in_ok-take_labels.ensures.fault in
     record {
       fault =
-          subst (Finds c.read-outputs.result) (sym on.0)
-          (subst (λ zs. Finds c.read-outputs.result (neither_fault circuit F f zs)) met
-          (subst (λ fn. Finds c.read-outputs.result (neither_fault circuit F fn (labels_kept c.evaluate-wires.new.words c.args.circuit.now.wires))) kept c.read-outputs.ensures.fault));
-      outputs = c.read-outputs.ensures.outputs ∙ (λ i. cond (is_ok c.read-outputs.result) (output_bytes circuit F (kept i) (met i)) c.args.outputs.now);
-      kept = c.read-outputs.ensures.kept ∙ kept;
+          subst (Finds c.read_outputs.result) (sym on.0)
+          (subst (λ zs. Finds c.read_outputs.result (neither_fault circuit F f zs)) met
+          (subst (λ fn. Finds c.read_outputs.result (neither_fault circuit F fn (labels_kept c.evaluate_wires.new.words c.args.circuit.now.wires))) kept c.read_outputs.ensures.fault));
+      outputs = c.read_outputs.ensures.outputs ∙ (λ i. cond (is_ok c.read_outputs.result) (output_bytes circuit F (kept i) (met i)) c.args.outputs.now);
+      kept = c.read_outputs.ensures.kept ∙ kept;
       asked =
-          subst (λ qs. Asked asks qs c.args.hash.now c.read-outputs.new.hash) (sym on.1)
-          (asked_append asks (evaluate_asks circuit f (gates_in F) xs) (output_asks circuit ls) c.args.hash.now c.evaluate-wires.new.hash c.read-outputs.new.hash
-          (c.evaluate-wires.ensures.asked xs held)
-          (subst (λ zs. Asked asks (output_asks circuit zs) c.evaluate-wires.new.hash c.read-outputs.new.hash) met c.read-outputs.ensures.asked));
+          subst (λ qs. Asked asks qs c.args.hash.now c.read_outputs.new.hash) (sym on.1)
+          (asked_append asks (evaluate_asks circuit f (gates_in F) xs) (output_asks circuit ls) c.args.hash.now c.evaluate_wires.new.hash c.read_outputs.new.hash
+          (c.evaluate_wires.ensures.asked xs held)
+          (subst (λ zs. Asked asks (output_asks circuit zs) c.evaluate_wires.new.hash c.read_outputs.new.hash) met c.read_outputs.ensures.asked));
     }
