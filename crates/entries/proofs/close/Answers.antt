@@ -4,10 +4,10 @@ use Rattle.entries.proofs.close.Goals as goal
 
 pub returns : goal.returns
 returns c = record {
-  fault = c.end-sitting.ensures.fault;
-  counts = c.end-sitting.ensures.counts;
-  store = c.end-sitting.ensures.store;
-  lines = counts_lines c.args.ledger.now c.end-sitting.result c.end-sitting.ensures.counts;
+  fault = c.end_sitting.ensures.fault;
+  counts = c.end_sitting.ensures.counts;
+  store = c.end_sitting.ensures.store;
+  lines = counts_lines c.args.ledger.now c.end_sitting.result c.end_sitting.ensures.counts;
   book = one_label;
   sample = sample_kept;
 }
