@@ -97,7 +97,7 @@ pub(crate) fn sample(
 }
 
 // Every item is this one.
-pub(crate) fn all<T: PartialEq<T> + Copy>(items: &[T], value: T) -> bool {
+pub(crate) fn all<T: PartialEq + Copy>(items: &[T], value: T) -> bool {
     let mut same = true;
     for at in 0..items.len() {
         same = same && items[at] == value;
