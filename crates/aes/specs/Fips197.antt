@@ -1,4 +1,4 @@
--- AES-128 encryption as FIPS 197 states it, in its order and with its names. A byte is a number below 256, a word [a0, a1, a2, a3] is
+-- AES-128 encryption as FIPS 197 states it, in its order and with its names, spelled as names are here. A byte is a number below 256, a word [a0, a1, a2, a3] is
 -- the number with a0 as its highest byte, and a state is the list of its 16 bytes, column after column.
 use Rattle.std.specs.Prelude.{ℕ, zero, suc, ◌+◌, ◌-◌, ◌*◌, ◌/◌, ◌%◌, ◌^◌, cond, List, [], ◌∷◌, ◌++◌, map, ◌==◌, bit_xor, slice_index}
 use Rattle.std.specs.List.{range_with_len}

@@ -1,5 +1,5 @@
 -- The hash of wire labels: AES-128 under a fixed key, of the label with the tweak's multiples added, and with that label doubled added.
-use Rattle.std.specs.Prelude.{ℕ, ◌/◌, ◌%◌, Bool, List, ◌++◌, take, drop, ◌==◌, bit_xor, slice_index}
+use Rattle.std.specs.Prelude.{ℕ, ◌/◌, ◌%◌, List, ◌++◌, take, drop, ◌==◌, bit_xor, slice_index}
 use Rattle.std.specs.Simd.Lanes.{zip2, number_l, digits_l}
 use Rattle.label.specs.Hashes.{HashFunction}
 use Rattle.label.specs.declared.hash.Answer.{Answer}

@@ -1,11 +1,11 @@
 -- A table has no fault exactly when it meets every condition.
-use Rattle.std.proofs.Common.{◌≡◌, ℕ, zero, suc, ◌+◌, ◌*◌, ◌<◌, ◌≤◌, Bool, true, false, cond, not, ◌&&◌, eqb, ltb, leb, ◌⊎◌, List, length, is_ok, Some, None, Ok, Err, Decides, Option, Result, sym, refl, ap, ◌∙◌, subst, inl, inr, arith}
+use Rattle.std.proofs.Common.{◌≡◌, ℕ, zero, suc, ◌+◌, ◌*◌, ◌<◌, ◌≤◌, Bool, true, false, ◌&&◌, eqb, leb, List, length, is_ok, Some, None, Ok, Err, Decides, Option, Result, sym, refl, ap, ◌∙◌, subst, inl, inr, arith}
 use Rattle.refusal.specs.Told.{Finds}
 use Rattle.refusal.specs.declared.Refusal.{Refusal}
 use Rattle.std.proofs.lemmas.Bool.{false≢true, and_parts, and_from, ltb-true, lt-ltb, le-ltb, leb-true, le-leb, eqb-true, eq-eqb, not-true, not_from_false, cases_lt, cond-true, cond-false}
 use Rattle.wires.specs.declared.Class.{Class}
-use Rattle.wires.specs.Wires.{Wiring, bit, kind_at, first_at, second_at, side_at, truth_at, class_at, is_input, allowed, output_wires}
-use Rattle.circuit.specs.Check.{Fault, unless, or_else, sides, most_wires, most_inputs, most_outputs, sizes_fault, input_fault, gate_fault, wire_fault, lowest_fault, outputs_fault, table_wiring, table_fault}
+use Rattle.wires.specs.Wires.{Wiring, bit, kind_at, first_at, second_at, side_at, allowed, output_wires}
+use Rattle.circuit.specs.Check.{Fault, unless, or_else, sides, most_wires, most_inputs, most_outputs, sizes_fault, input_fault, gate_fault, wire_fault, lowest_fault, table_wiring, table_fault}
 use Rattle.circuit.specs.Accepted.{InputSound, GateSound, SizesSound, WiresSound, Accepted}
 
 -- No fault where the test holds and none follows; and back.

@@ -1,8 +1,8 @@
 -- The plain circuit's values, wire by wire: how a loop fills them, and the relations that hold of them all.
-use Rattle.std.proofs.Common.{◌≡◌, ℕ, zero, suc, ◌+◌, ◌-◌, ◌<◌, ◌≤◌, Bool, true, false, cond, List, [], ◌∷◌, ◌++◌, length, get_or, take, set, None, sym, refl, ap, ◌∙◌, subst, inl, inr, add-zero, add-suc, add-one, arith}
+use Rattle.std.proofs.Common.{◌≡◌, ℕ, zero, suc, ◌+◌, ◌<◌, ◌≤◌, Bool, false, List, [], ◌∷◌, ◌++◌, length, get_or, take, set, None, sym, refl, ap, ◌∙◌, subst, inl, inr, add-one, arith}
 use Rattle.std.proofs.lemmas.List.{length_push, get_or_append_left, get_or_push, take_all, take_more_set}
 use Rattle.std.proofs.lemmas.Bool.{eq-eqb, cases_lt, lt-ltb, le-ltb, cond-true, cond-false}
-use Rattle.wires.specs.Wires.{Wiring, truth, truth_at, first_at, second_at, is_input, output_wires}
+use Rattle.wires.specs.Wires.{Wiring, truth, truth_at, first_at, second_at, output_wires}
 use Rattle.circuit.specs.Plain.{value_from, values_below, values_of, at_outputs, plain_fault, PlainRun}
 
 -- One wire more has its value.

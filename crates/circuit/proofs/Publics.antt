@@ -1,12 +1,11 @@
 -- The public table as it is written, and what it shows of the circuit.
-use Rattle.std.proofs.Common.{◌≡◌, ℕ, ◌+◌, ◌-◌, ◌*◌, ◌/◌, ◌%◌, ◌^◌, ◌<◌, ◌≤◌, Bool, true, false, cond, eqb, List, [], ◌∷◌, ◌++◌, map, length, get_or, drop, set, sym, refl, ap, ◌∙◌, subst, inl, inr, arith}
+use Rattle.std.proofs.Common.{◌≡◌, ℕ, ◌+◌, ◌-◌, ◌*◌, ◌/◌, ◌%◌, ◌<◌, ◌≤◌, eqb, List, [], ◌∷◌, ◌++◌, length, get_or, set, sym, refl, ap, ◌∙◌, subst, inl, inr, arith}
 use borrow.Rule.Slice.PartMut.{put_mid}
-use Rattle.std.specs.List.{range_with_len}
 use Rattle.std.proofs.lemmas.List.FromFn.{get_or-map-range_with_len}
 use Rattle.std.proofs.lemmas.List.{append-nil, drop_all}
 use Rattle.std.proofs.lemmas.Bool.{cases_lt, lt-ltb, le-ltb, cond-true, cond-false}
 use Rattle.slices.specs.Little.{short_at}
-use Rattle.wires.specs.Wires.{Wiring, bit, kind_at, first_at, second_at, side_at, class_of, class_at, truth_at, is_input, is_output}
+use Rattle.wires.specs.Wires.{Wiring, bit, kind_at, class_of}
 use Rattle.circuit.specs.Check.{table_wiring}
 use Rattle.circuit.specs.Public.{public_kind, public_byte, public_arrays, public_table, PublicOf}
 use Rattle.circuit.proofs.Tables.{same_wiring}

@@ -1,5 +1,5 @@
 -- Steps of the loop that looks for the lowest faulty wire.
-use Rattle.std.proofs.Common.{◌≡◌, ℕ, zero, suc, ◌+◌, ◌-◌, ◌<◌, Bool, Some, None, Option, refl, ap, ◌∙◌, subst, add-zero, add-suc, add-one, arith}
+use Rattle.std.proofs.Common.{◌≡◌, ℕ, zero, suc, ◌+◌, ◌-◌, ◌<◌, Bool, Some, None, Option, ap, ◌∙◌, subst, add-zero, add-suc, add-one, arith}
 use Rattle.wires.specs.declared.Class.{Class}
 use Rattle.wires.specs.Wires.{Wiring}
 use Rattle.circuit.specs.Check.{Fault, or_else, wire_fault, lowest_fault}

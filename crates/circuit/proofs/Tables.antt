@@ -1,7 +1,7 @@
 -- From the facts that the table check gathers to the first fault of a table.
-use Rattle.std.proofs.Common.{◌≡◌, ℕ, ◌+◌, ◌*◌, ◌≤◌, Bool, true, false, eqb, leb, List, length, Some, None, Option, sym, refl, ap, ◌∙◌, subst, arith, eq-eqb, le-leb}
+use Rattle.std.proofs.Common.{◌≡◌, ℕ, ◌+◌, ◌*◌, ◌≤◌, List, length, None, sym, subst, eq-eqb, le-leb}
 use Rattle.wires.specs.Wires.{Wiring, allowed, output_wires}
-use Rattle.circuit.specs.Check.{Fault, unless, or_else, sizes_fault, lowest_fault, outputs_fault, table_wiring, table_fault}
+use Rattle.circuit.specs.Check.{or_else, sizes_fault, lowest_fault, outputs_fault, table_wiring, table_fault}
 
 -- Two wirings are equal part by part.
 pub same_wiring : (a b : Wiring) → a.wires ≡ b.wires → a.inputs ≡ b.inputs → a.arrays ≡ b.arrays → a ≡ b

@@ -1,5 +1,5 @@
 -- What an accepted table is: every condition that a table has to meet, side by side.
-use Rattle.std.specs.Prelude.{◌≡◌, ℕ, ◌+◌, ◌*◌, ◌<◌, ◌≤◌, Bool, true, false, List, length, Some, None}
+use Rattle.std.specs.Prelude.{◌≡◌, ℕ, ◌+◌, ◌*◌, ◌<◌, ◌≤◌, Bool, true, false, List, length}
 use Rattle.wires.specs.declared.Class.{Class}
 use Rattle.wires.specs.Wires.{Wiring, bit, kind_at, first_at, second_at, side_at, truth_at, class_at, allowed, output_wires}
 use Rattle.circuit.specs.Check.{most_wires, most_inputs, most_outputs, sides, table_wiring}

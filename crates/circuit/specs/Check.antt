@@ -1,8 +1,8 @@
 -- What makes a circuit table faulty, and which fault is named: number and place of the first.
-use Rattle.std.specs.Prelude.{◌≡◌, ℕ, zero, suc, ◌+◌, ◌*◌, ◌<◌, ◌≤◌, Bool, true, false, cond, not, ◌&&◌, List, length, drop, Some, None, Option, ◌==◌, nat_le, nat_lt}
+use Rattle.std.specs.Prelude.{ℕ, zero, suc, ◌+◌, ◌*◌, Bool, true, false, cond, not, ◌&&◌, List, length, drop, Some, None, Option, ◌==◌, nat_le, nat_lt}
 use Rattle.slices.specs.Little.{short_at}
 use Rattle.wires.specs.declared.Class.{Class}
-use Rattle.wires.specs.Wires.{bit, Wiring, kind_at, first_at, second_at, side_at, truth_at, class_at, is_input, is_output, allowed, output_wires}
+use Rattle.wires.specs.Wires.{bit, Wiring, kind_at, first_at, second_at, side_at, truth_at, class_at, is_input, allowed, output_wires}
 
 -- The limits.
 abbrev pub most_wires : ℕ

@@ -1,5 +1,5 @@
 -- The plain circuit: the value of each wire, and the outputs.
-use Rattle.std.specs.Prelude.{◌≡◌, ℕ, zero, suc, ◌<◌, ◌≤◌, Bool, true, false, cond, List, [], ◌∷◌, ◌++◌, map, length, get_or, None, Option, ◌==◌, slice_index_or}
+use Rattle.std.specs.Prelude.{◌≡◌, ℕ, zero, suc, ◌<◌, ◌≤◌, Bool, false, cond, List, [], ◌∷◌, ◌++◌, map, length, get_or, None, Option, ◌==◌, slice_index_or}
 use Rattle.wires.specs.Wires.{Wiring, truth, truth_at, first_at, second_at, is_input, output_wires}
 use Rattle.circuit.specs.Check.{Fault, unless}
 

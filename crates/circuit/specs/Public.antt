@@ -1,5 +1,5 @@
 -- The public part of a circuit: everything but the truth tables of its gates.
-use Rattle.std.specs.Prelude.{◌≡◌, ℕ, ◌+◌, ◌*◌, ◌/◌, ◌%◌, ◌<◌, ◌≤◌, Bool, cond, List, [], ◌∷◌, ◌++◌, map, None, Option, ◌==◌, nat_lt, slice_index}
+use Rattle.std.specs.Prelude.{◌≡◌, ℕ, ◌+◌, ◌*◌, ◌/◌, ◌<◌, ◌≤◌, cond, List, ◌++◌, map, None, Option, ◌==◌, nat_lt, slice_index}
 use Rattle.std.specs.List.{range_with_len}
 use Rattle.slices.specs.Little.{short_bytes}
 use Rattle.wires.specs.Wires.{Wiring, kind_at, first_at, second_at, side_at, truth_at, class_at, is_input, is_output}

@@ -1,6 +1,6 @@
 -- Two secrets over one public circuit, and drawn bytes and rows that match gate by gate: on every wire the server has the same label, and it sees the same of every gate.
 use Rattle.std.proofs.Common.{◌≡◌, ℕ, ◌*◌, ◌<◌, ◌≤◌, Bool, true, false, List, [], ◌∷◌, sym, ap, ◌∙◌, arith}
-use Rattle.label.specs.Sums.{halves, pairs, ◌⊻◌}
+use Rattle.label.specs.Sums.{halves, ◌⊻◌}
 use Rattle.label.specs.Labels.{Label, colour_of}
 use Rattle.label.specs.Rows.{table_function}
 use Rattle.label.specs.declared.rows.Row.{Row}

@@ -1,5 +1,5 @@
 -- The sample book is kept: each of its done calls has no fault where it stands, by computation.
-use Rattle.std.proofs.Common.{◌≡◌, ℕ, zero, suc, ◌<◌, ◌≤◌, refl, arith, lit<}
+use Rattle.std.proofs.Common.{ℕ, zero, suc, ◌<◌, refl, arith, lit<}
 use Rattle.ledger.specs.Ledger.{owners_of, empty_ledger}
 use Rattle.entries.specs.Steps.{State}
 use Rattle.entries.specs.Book.{state_after, Kept, closed_by, released_by}

@@ -1,5 +1,5 @@
 -- A kept book, shown: what a side does in a small round, so that no premise on books is one that nothing meets.
-use Rattle.std.specs.Prelude.{◌≡◌, ℕ, Bool, true, List, [], ◌∷◌}
+use Rattle.std.specs.Prelude.{◌≡◌, true, List, [], ◌∷◌}
 use Rattle.label.specs.Labels.{Label}
 use Rattle.wires.specs.Wires.{Wiring}
 use Rattle.entries.specs.Steps.{enter_call, change_call, release_call, close_call}

@@ -1,5 +1,5 @@
 -- What each call of an open sitting does to the ledger, the store and the sheet that it is lent, and when it cannot.
-use Rattle.std.specs.Prelude.{ℕ, Bool, ◌&&◌, List, length, replicate, Some, None, Option, ◌==◌, nat_lt}
+use Rattle.std.specs.Prelude.{ℕ, Bool, ◌&&◌, List, length, replicate, None, Option, ◌==◌, nat_lt}
 use Rattle.circuit.specs.Check.{unless, or_else}
 use Rattle.label.specs.Sums.{halves}
 use Rattle.label.specs.Labels.{Label}

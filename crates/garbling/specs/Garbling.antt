@@ -1,5 +1,5 @@
 -- A circuit garbled: from the drawn bytes T and the hash function f, the false label of each wire, wire by wire, and the garbled gates.
-use Rattle.std.specs.Prelude.{ℕ, zero, suc, Bool, true, false, cond, List, [], ◌∷◌, ◌++◌, map, length, slice_index_or}
+use Rattle.std.specs.Prelude.{ℕ, zero, suc, cond, List, [], ◌∷◌, ◌++◌, map, length, slice_index_or}
 use Rattle.std.specs.List.{flat_map}
 use Rattle.label.specs.Sums.{halves}
 use Rattle.label.specs.Labels.{Label}
@@ -10,7 +10,7 @@ use Rattle.wires.specs.Wires.{Wiring, first_at, second_at, truth_at, class_at, i
 use Rattle.gate.specs.declared.views.Parity.{Parity}
 use Rattle.gate.specs.declared.views.Parity.TheVariants.{Even, Odd, Hidden}
 use Rattle.gate.specs.declared.garble.GarbledGate.{GarbledGate}
-use Rattle.gate.specs.Sums.{shifted, sum_of}
+use Rattle.gate.specs.Sums.{sum_of}
 use Rattle.gate.specs.Gates.{garbled_gate, gate_questions}
 use Rattle.garbling.specs.Tweaks.{gate_tweak}
 use Rattle.garbling.specs.Tape.{offset_in, input_in, dice_in}

@@ -1,5 +1,5 @@
 -- The marks of the outputs, made last: by them a label that the server comes to is told to be the false or the true one.
-use Rattle.std.specs.Prelude.{ℕ, Bool, true, false, cond, ◌&&◌, List, [], ◌∷◌, map, Some, None, Option, ◌==◌}
+use Rattle.std.specs.Prelude.{ℕ, Bool, true, false, ◌&&◌, List, [], ◌∷◌, map, Some, None, Option, ◌==◌}
 use Rattle.std.specs.List.{flat_map}
 use Rattle.label.specs.Sums.{halves}
 use Rattle.label.specs.Labels.{Label}

@@ -1,6 +1,6 @@
 -- One gate under a hash: garbled from its false labels, evaluated on the labels met.
-use Rattle.std.specs.Prelude.{ℕ, ◌+◌, ◌%◌, ◌^◌, Bool, true, false, not, cond, List, [], ◌∷◌, map, get_or}
-use Rattle.label.specs.Sums.{halves, pairs, pair_plus, ◌⊻◌}
+use Rattle.std.specs.Prelude.{ℕ, ◌+◌, ◌%◌, ◌^◌, Bool, true, false, not, List, [], ◌∷◌, map, get_or}
+use Rattle.label.specs.Sums.{halves, pairs, pair_plus}
 use Rattle.label.specs.Labels.{Label, colour_of}
 use Rattle.label.specs.Hashes.{HashFunction, Question}
 use Rattle.label.specs.Rows.{blank_answer}

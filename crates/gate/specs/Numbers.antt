@@ -1,5 +1,5 @@
 -- From eight values to five numbers and back, over any group: one text for halves of labels and for control pairs.
-use Rattle.std.specs.Prelude.{ℕ, Bool, true, false, cond, List, [], ◌∷◌, get_or}
+use Rattle.std.specs.Prelude.{Bool, true, false, cond, List, [], ◌∷◌, get_or}
 use Rattle.label.specs.Sums.{Group, ◌⊻◌}
 
 pub record Five (E : Type 0) : Type 0 where

@@ -1,6 +1,6 @@
 -- Garbling and evaluating a gate as sums over any group: halves of labels, and control pairs.
-use Rattle.std.specs.Prelude.{ℕ, Bool, true, false, not, cond, List, get_or}
-use Rattle.label.specs.Sums.{Group, ◌⊻◌}
+use Rattle.std.specs.Prelude.{Bool, List, get_or}
+use Rattle.label.specs.Sums.{Group}
 use Rattle.gate.specs.declared.views.Parity.{Parity}
 use Rattle.gate.specs.declared.views.Truth.{Truth}
 use Rattle.gate.specs.declared.views.Dice.{Dice}

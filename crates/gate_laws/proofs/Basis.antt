@@ -1,5 +1,5 @@
 -- A view's value by the basis of views, and the compressed controls by what each bit adds: at all bits, and so for every group.
-use Rattle.std.proofs.Common.{◌≡◌, Bool, true, false, List, [], ◌∷◌, refl}
+use Rattle.std.proofs.Common.{◌≡◌, Bool, true, List, [], ◌∷◌, refl}
 use Rattle.label.specs.Sums.{Group, Laws}
 use Rattle.label.proofs.Solve.{Exp, exps, var, add}
 use Rattle.label.proofs.Every.{every, every_at}

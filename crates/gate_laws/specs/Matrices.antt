@@ -1,6 +1,6 @@
 -- The scheme as matrices over 0 and 1, written out, and that the sums of a gate are these matrices.
 use Rattle.std.specs.Prelude.{◌≡◌, ℕ, Bool, true, false, cond, List, [], ◌∷◌, map, ◌==◌, bit_xor}
-use Rattle.label.specs.Sums.{Group, ◌⊻◌}
+use Rattle.label.specs.Sums.{Group}
 use Rattle.gate.specs.declared.views.Parity.{Parity}
 use Rattle.gate.specs.declared.views.Truth.{Truth}
 use Rattle.gate.specs.declared.views.Dice.{Dice}

@@ -1,12 +1,10 @@
 -- The gate of the Monday round: an AND of one wire a side, on wire 2, under a small answer table.
-use Rattle.std.specs.Prelude.{◌≡◌, ℕ, ◌+◌, ◌*◌, ◌/◌, ◌%◌, Bool, true, false, List, [], ◌∷◌, map, ◌==◌}
+use Rattle.std.specs.Prelude.{◌≡◌, ℕ, ◌+◌, ◌*◌, ◌/◌, ◌%◌, true, false, [], ◌∷◌, map, ◌==◌}
 use Rattle.std.specs.List.{range_with_len}
-use Rattle.label.specs.Sums.{halves}
 use Rattle.label.specs.Labels.{Label}
 use Rattle.label.specs.Hashes.{HashFunction}
 use Rattle.label.specs.Rows.{table_function}
 use Rattle.label.specs.declared.hash.Answer.{Answer}
-use Rattle.label.specs.declared.rows.Row.{Row}
 use Rattle.label.specs.declared.xor.ControlPair.{ControlPair}
 use Rattle.gate.specs.declared.views.Parity.TheVariants.{Odd}
 use Rattle.gate.specs.declared.garble.GarbledGate.{GarbledGate}

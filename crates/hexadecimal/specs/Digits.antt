@@ -1,5 +1,5 @@
 -- What a hexadecimal text writes.
-use Rattle.std.specs.Prelude.{ℕ, ◌+◌, ◌-◌, ◌*◌, Bool, true, false, cond, ◌&&◌, List, [], ◌∷◌, Some, None, Option, nat_le}
+use Rattle.std.specs.Prelude.{ℕ, ◌+◌, ◌-◌, ◌*◌, cond, ◌&&◌, List, [], ◌∷◌, Some, None, Option, nat_le}
 
 -- The characters 0 to 9 are 48 to 57, and a to f are 97 to 102.
 abbrev pub digit_of : ℕ → Option ℕ

@@ -1,6 +1,6 @@
 -- Questions asked one list after the other.
 use mathlib.Core.List.{List, [], ◌∷◌, ◌++◌}
-use mathlib.Core.Path.{◌≡◌, subst}
+use mathlib.Core.Path.{subst}
 use Prim.Native.Nat.{ℕ}
 use Rattle.label.specs.Labels.{Label}
 use Rattle.label.specs.Hashes.{Question, Asked}

@@ -1,9 +1,7 @@
 -- Halves and control pairs obey the laws of sums; and so does every type under the trait.
-use Prim.Native.Nat.{ℕ}
 use mathlib.Core.Bool.{Bool, true, false}
 use mathlib.Core.Path.{◌≡◌, refl}
 use lib.Bits.{xor_assoc, xor_comm, xor_zero_l, xor_self}
-use Rattle.label.specs.declared.xor.ControlPair.{ControlPair}
 use Rattle.label.specs.Sums.{Laws, group, halves, pairs, pair_plus, ◌⊻◌}
 
 -- The laws of a sum are those of its group.

@@ -1,5 +1,5 @@
 -- The answer table: row r holds, for each colour, the answer for tweak r; past its last row all answers are zero.
-use Rattle.std.specs.Prelude.{ℕ, Bool, true, false, cond, List, get_or}
+use Rattle.std.specs.Prelude.{ℕ, Bool, false, cond, List, get_or}
 use Rattle.label.specs.declared.hash.Answer.{Answer}
 use Rattle.label.specs.declared.rows.Row.{Row}
 use Rattle.label.specs.Labels.{Label, colour_of}

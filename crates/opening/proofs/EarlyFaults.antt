@@ -1,11 +1,11 @@
 -- The faults of a table have numbers up to 8, so none of them is that of equal marks.
-use Rattle.std.proofs.Common.{◌≡◌, ℕ, zero, suc, ◌+◌, ◌*◌, ◌≤◌, Bool, true, false, cond, not, ◌&&◌, eqb, ltb, leb, List, length, Some, None, Option, sym, ap, ◌∙◌, subst, arith}
+use Rattle.std.proofs.Common.{◌≡◌, ℕ, zero, suc, ◌+◌, ◌*◌, ◌≤◌, Bool, true, false, cond, not, ◌&&◌, eqb, ltb, leb, List, length, Some, None, Option, subst, arith}
 use Rattle.std.proofs.lemmas.Bool.{ne_eqb}
 use Rattle.refusal.specs.declared.Refusal.{Refusal}
 use Rattle.refusal.specs.Told.{told}
 use Rattle.wires.specs.declared.Class.{Class}
 use Rattle.wires.specs.Wires.{Wiring, bit, kind_at, first_at, second_at, side_at, truth_at, class_at, is_input, allowed, output_wires}
-use Rattle.circuit.specs.Check.{Fault, unless, or_else, sides, most_wires, most_inputs, most_outputs, sizes_fault, input_fault, gate_fault, wire_fault, lowest_fault, outputs_fault, table_wiring, table_fault}
+use Rattle.circuit.specs.Check.{Fault, unless, or_else, sides, most_wires, most_inputs, most_outputs, sizes_fault, wire_fault, lowest_fault, table_wiring, table_fault}
 
 -- A fault, if there is one, has a number up to 8.
 abbrev UpToEight : Option Fault → Type 0

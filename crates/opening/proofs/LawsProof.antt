@@ -1,20 +1,19 @@
 -- Both sides open alike; a wire's two labels differ in colour; the form shows the public part of the table.
-use Rattle.std.proofs.Common.{◌≡◌, ℕ, ◌+◌, ◌*◌, ◌/◌, ◌%◌, ◌^◌, ◌<◌, Bool, true, false, not, eqb, ltb, List, is_ok, Some, None, Ok, Err, Option, Result, sym, refl, ap, ◌∙◌, subst, arith}
+use Rattle.std.proofs.Common.{◌≡◌, ℕ, ◌^◌, ◌<◌, Bool, true, false, not, List, is_ok, Ok, Err, Result, sym, refl, ap, ◌∙◌, subst, arith}
 use Rattle.std.proofs.lemmas.Bool.{lt-ltb, eq-eqb, false≢true}
-use Rattle.label.specs.Sums.{halves, ◌⊻◌}
-use Rattle.label.specs.Labels.{Label, colour_of, label_at}
+use Rattle.label.specs.Sums.{◌⊻◌}
+use Rattle.label.specs.Labels.{colour_of}
 use Rattle.label.specs.Hashes.{HashFunction}
 use Rattle.wires.specs.Wires.{Wiring}
 use Rattle.refusal.specs.declared.Refusal.{Refusal}
-use Rattle.circuit.specs.Check.{Fault, unless, or_else, sides, table_wiring}
+use Rattle.circuit.specs.Check.{unless, or_else, sides, table_wiring}
 use Rattle.circuit.specs.Public.{PublicOf}
-use Rattle.gate.specs.Sums.{shifted}
 use Rattle.gate_laws.proofs.Colours.{colour_of_shifted}
 use Rattle.garbling.specs.Tape.{offset_in, drawn_for}
 use Rattle.form.specs.Read.{form_wiring}
 use Rattle.form.proofs.Backs.{circuit_back}
-use Rattle.opening.specs.Opening.{Room, lent_fault, tape_fault, marks_fault, equal_output, gates_sent, marks_sent, opened_form, open_fault, left}
-use Rattle.opening.specs.Laws.{Opened, Alike, ColoursDiffer}
+use Rattle.opening.specs.Opening.{lent_fault, tape_fault, marks_fault, equal_output, gates_sent, marks_sent, opened_form, left}
+use Rattle.opening.specs.Laws.{Alike, ColoursDiffer}
 
 pub open_alike : Alike
 open_alike = record {

@@ -1,5 +1,5 @@
 -- How far a garbling has come after some wires, and how one wire more takes it on.
-use Rattle.std.proofs.Common.{◌≡◌, ℕ, ◌+◌, ◌*◌, ◌<◌, ◌≤◌, Bool, true, false, cond, List, [], ◌∷◌, ◌++◌, map, length, sym, refl, ap, ◌∙◌, subst, add-one, arith}
+use Rattle.std.proofs.Common.{◌≡◌, ℕ, ◌+◌, ◌*◌, Bool, true, false, cond, List, [], ◌∷◌, ◌++◌, map, length, sym, refl, ap, ◌∙◌, subst, add-one, arith}
 use lib.ListN.{length-map}
 use Rattle.std.specs.List.{flat_map}
 use Rattle.std.proofs.lemmas.List.{append-nil, map-append, flat_map_more}
@@ -7,7 +7,7 @@ use Rattle.label.specs.Labels.{Label}
 use Rattle.label.specs.Hashes.{HashFunction, Question, Asked}
 use Rattle.label.proofs.Chains.{asked_append}
 use Rattle.wires.specs.Wires.{Wiring, is_garbled, wires_where, garbled_wires}
-use Rattle.garbling.specs.Garbling.{gate_index, gate_from, false_from, falses_below, falses_of, gate_at, gates_of, garble_asks_at, garble_asks}
+use Rattle.garbling.specs.Garbling.{gate_index, gate_from, false_from, falses_below, gate_at, garble_asks_at}
 use Rattle.garbling.specs.Evaluation.{SentGate, sent}
 use Rattle.garbling.specs.Words.{labels_kept}
 use Rattle.garbling.specs.Steps.{made_asks}

@@ -1,8 +1,8 @@
 -- How far the marking has come after some wires, and how one wire more takes it on.
-use Rattle.std.proofs.Common.{◌≡◌, ℕ, ◌+◌, ◌*◌, ◌<◌, ◌≤◌, Bool, true, false, cond, ◌&&◌, List, [], ◌∷◌, ◌++◌, map, length, Some, None, Option, sym, refl, ap, ◌∙◌, subst, arith}
+use Rattle.std.proofs.Common.{◌≡◌, ℕ, ◌+◌, ◌*◌, Bool, true, false, cond, ◌&&◌, List, [], ◌∷◌, ◌++◌, map, length, Some, None, Option, sym, refl, ap, ◌∙◌, subst, arith}
 use lib.ListN.{length-map}
 use Rattle.std.specs.List.{flat_map}
-use Rattle.std.proofs.lemmas.List.{append-nil, map-append}
+use Rattle.std.proofs.lemmas.List.{map-append}
 use Rattle.std.proofs.lemmas.Bool.{cond-true, cond-false, and_left}
 use Rattle.label.specs.Sums.{halves}
 use Rattle.label.specs.Labels.{Label, label_bytes}
@@ -13,7 +13,7 @@ use Rattle.gate.specs.Sums.{shifted}
 use Rattle.gate.specs.Gates.{tweak_after}
 use Rattle.garbling.specs.Tweaks.{mark_tweak}
 use Rattle.garbling.specs.Garbling.{label_in}
-use Rattle.garbling.specs.Marks.{same_mark, mark_of, mark_questions, mark_at, marks_of, marks_ask_at, marks_ask, equal_at, equal_below, first_of}
+use Rattle.garbling.specs.Marks.{same_mark, mark_of, mark_questions, mark_at, marks_of, marks_ask_at, equal_at, equal_below, first_of}
 use Rattle.garbling.specs.Evaluation.{output_index}
 use Rattle.gate_laws.proofs.Colours.{not_shifted}
 use Rattle.label.proofs.Groups.{halves_laws}

@@ -1,8 +1,8 @@
 -- Two rows of items in one buffer: the first from its start, the second from a base on, both growing item by item.
-use Rattle.std.proofs.Common.{◌≡◌, ℕ, ◌+◌, ◌-◌, ◌*◌, ◌<◌, ◌≤◌, List, [], ◌∷◌, ◌++◌, length, take, drop, sym, refl, ap, ◌∙◌, subst, arith, length-append, length-drop}
+use Rattle.std.proofs.Common.{◌≡◌, ℕ, ◌+◌, ◌-◌, ◌≤◌, List, [], ◌∷◌, ◌++◌, length, take, drop, sym, refl, ap, ◌∙◌, arith, length-append, length-drop}
 use borrow.Rule.Slice.PartMut.{put_mid, same_len_mid}
 use Rattle.std.specs.List.{flat_map as joined}
-use Rattle.std.proofs.lemmas.List.{append-nil, take_all, flat_map_more, take-append-drop, drop-take, drop-append-le, length-take-le}
+use Rattle.std.proofs.lemmas.List.{take_all, flat_map_more, take-append-drop, drop-take, drop-append-le, length-take-le}
 use Rattle.opening.specs.Rows.{Rows}
 use Rattle.std.proofs.lemmas.Slice.{take-put_mid, take-put_mid_below, drop-put_mid}
 

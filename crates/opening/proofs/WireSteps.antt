@@ -1,7 +1,7 @@
 -- What a wire that was made tells: whether it is garbled, its false label, and how the loop over the wires goes on.
-use Rattle.std.proofs.Common.{◌≡◌, ℕ, ◌+◌, ◌*◌, ◌<◌, ◌≤◌, Bool, true, false, cond, ltb, List, [], ◌∷◌, ◌++◌, length, set, sym, refl, ap, ◌∙◌, subst, arith, length-set}
+use Rattle.std.proofs.Common.{◌≡◌, ℕ, ◌+◌, ◌*◌, ◌<◌, Bool, true, false, cond, ltb, List, [], ◌∷◌, ◌++◌, length, set, sym, refl, ap, ◌∙◌, subst, arith, length-set}
 use Rattle.std.proofs.lemmas.List.{append-nil}
-use Rattle.std.proofs.lemmas.Bool.{false≢true, cond-true, cond-false}
+use Rattle.std.proofs.lemmas.Bool.{cond-true, cond-false}
 use Rattle.label.specs.Labels.{Label}
 use Rattle.label.specs.Hashes.{HashFunction}
 use Rattle.wires.specs.Wires.{Wiring, is_garbled, wires_where}
@@ -10,7 +10,6 @@ use Rattle.gate.specs.declared.garble.GarbledGate.{GarbledGate}
 use Rattle.garbling.specs.declared.garble.MadeWire.{MadeWire}
 use Rattle.garbling.specs.declared.garble.MadeWire.TheVariants.{Gate, Plain}
 use Rattle.garbling.specs.Garbling.{gate_index, gate_with, gate_from, false_from}
-use Rattle.garbling.specs.Evaluation.{SentGate, sent}
 use Rattle.garbling.specs.Words.{labels_kept, keeping}
 use Rattle.garbling.specs.Steps.{made_from, made_label}
 use Rattle.garbling.proofs.Kept.{kept_more}

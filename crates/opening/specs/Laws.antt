@@ -1,9 +1,8 @@
 -- What holds of every opening: both sides open alike, and a wire's two labels are told apart by their colours.
-use Rattle.std.specs.Prelude.{◌≡◌, ℕ, ◌+◌, ◌<◌, Bool, true, not, List, length, None}
+use Rattle.std.specs.Prelude.{◌≡◌, ℕ, ◌+◌, ◌<◌, true, not, List, None}
 use Rattle.label.specs.Sums.{halves}
 use Rattle.label.specs.Labels.{Label, colour_of}
 use Rattle.label.specs.Hashes.{HashFunction}
-use Rattle.wires.specs.Wires.{Wiring}
 use Rattle.circuit.specs.Check.{sides, table_wiring}
 use Rattle.gate.specs.Sums.{shifted}
 use Rattle.garbling.specs.Tape.{offset_in, need_of, drawn_for}

@@ -1,5 +1,5 @@
 -- One output marked: what is written, what is asked, and whether its two marks are the first that are equal.
-use Rattle.std.specs.Prelude.{ℕ, Bool, true, false, cond, List, [], ◌∷◌, Some, None, Option}
+use Rattle.std.specs.Prelude.{ℕ, Bool, true, false, cond, List, [], Some, None, Option}
 use Rattle.label.specs.Labels.{Label, label_bytes}
 use Rattle.label.specs.Hashes.{HashFunction, Question}
 use Rattle.wires.specs.Wires.{Wiring, is_output}

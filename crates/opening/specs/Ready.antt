@@ -1,5 +1,5 @@
 -- A checked table whose buffers have the right lengths: an opening may draw.
-use Rattle.std.specs.Prelude.{◌≡◌, ℕ, ◌*◌, ◌≤◌, false, Ok, Err, Result, ◌==◌}
+use Rattle.std.specs.Prelude.{◌≡◌, ◌*◌, ◌≤◌, false, Ok, Err, Result, ◌==◌}
 use Rattle.refusal.specs.declared.Refusal.{Refusal}
 use Rattle.refusal.specs.Told.{told}
 use Rattle.circuit.specs.declared.check.Table.{Table}

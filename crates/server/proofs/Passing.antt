@@ -1,5 +1,5 @@
 -- A form that is written of an accepted circuit passes its check.
-use Rattle.std.proofs.Common.{◌≡◌, ℕ, zero, suc, ◌*◌, ◌/◌, ◌%◌, ◌<◌, ◌≤◌, Bool, true, false, cond, not, ◌&&◌, eqb, ltb, leb, List, [], ◌∷◌, ◌++◌, length, get_or, None, Option, sym, refl, ap, ◌∙◌, subst, inl, inr, arith}
+use Rattle.std.proofs.Common.{◌≡◌, ℕ, zero, suc, ◌*◌, ◌/◌, ◌%◌, ◌<◌, ◌≤◌, Bool, true, false, cond, not, ◌&&◌, eqb, ltb, leb, List, [], ◌∷◌, ◌++◌, length, get_or, None, sym, refl, ap, ◌∙◌, subst, inl, inr, arith}
 use Rattle.std.proofs.lemmas.List.FromFn.{get_or-map-range_with_len, length-map-range_with_len}
 use Rattle.std.proofs.lemmas.List.{get_or_append_left}
 use Rattle.std.proofs.lemmas.Bool.{cases_lt, cases_Bool, lt-ltb, le-ltb, le-leb, eq-eqb, cond-true, cond-false, and_from, and_left, and_right, or_left, or_right, not_from_true, not_from_false}
@@ -10,7 +10,7 @@ use Rattle.wires.specs.Wires.{Wiring, bit, kind_at, truth_at, class_at, is_free,
 use Rattle.wires.proofs.Scans.{count_below}
 use Rattle.circuit.specs.declared.check.TruthRule.TheVariants.{Blank}
 use Rattle.circuit.proofs.Accepts.{none_unless, none_or_else}
-use Rattle.circuit.specs.Check.{Fault, unless, or_else, sides, most_wires, most_inputs, most_outputs, sizes_fault, lowest_fault}
+use Rattle.circuit.specs.Check.{sides, most_wires, most_inputs, most_outputs, sizes_fault, lowest_fault}
 use Rattle.circuit.specs.Read.{rule_of}
 use Rattle.circuit.specs.Accepted.{SizesSound, WiresSound}
 use Rattle.circuit.specs.Public.{public_byte, public_arrays, PublicOf}

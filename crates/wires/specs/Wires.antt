@@ -1,5 +1,5 @@
 -- The wires of a circuit: what the arrays of a table say of each.
-use Rattle.std.specs.Prelude.{ℕ, zero, suc, ◌+◌, ◌*◌, ◌/◌, ◌%◌, ◌^◌, Bool, true, false, cond, not, ◌&&◌, List, [], ◌∷◌, ◌++◌, length, ◌==◌, count_ones, nat_lt, slice_index}
+use Rattle.std.specs.Prelude.{ℕ, zero, suc, ◌+◌, ◌*◌, ◌/◌, ◌%◌, ◌^◌, Bool, true, false, cond, not, ◌&&◌, List, [], ◌∷◌, ◌++◌, ◌==◌, count_ones, nat_lt, slice_index}
 use Rattle.slices.specs.Little.{short_at}
 use Rattle.wires.specs.declared.Class.{Class}
 use Rattle.wires.specs.declared.Class.TheVariants.{Free, Even, Odd, Hidden}

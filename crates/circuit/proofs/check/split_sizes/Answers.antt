@@ -1,4 +1,4 @@
-use Rattle.std.proofs.Common.{◌≡◌, ℕ, arith, length-drop, take_all, rules}
+use Rattle.std.proofs.Common.{◌≡◌, arith, length-drop, take_all, rules}
 use Rattle.slices.specs.Little.{short_at}
 use Rattle.circuit.proofs.Tables.{same_wiring}
 use Rattle.circuit.proofs.check.split_sizes.Goals as goal

@@ -1,4 +1,4 @@
-use Rattle.std.proofs.Common.{◌≡◌, ℕ, ◌<◌, Bool, false, length, get_or, sym, refl, ap, ◌∙◌, arith, rules}
+use Rattle.std.proofs.Common.{ℕ, Bool, false, get_or, sym, refl, ap, ◌∙◌, arith, rules}
 use Rattle.wires.specs.Wires.{wires_where, is_output}
 use Rattle.wires.specs.Read.{wiring_of}
 use Rattle.wires.proofs.Scans.{count_below, picked_taken, picked_left, picked_done}

@@ -1,4 +1,4 @@
-use Rattle.std.proofs.Common.{◌≡◌, ℕ, ◌<◌, List, ◌∷◌, get_or, sym, ap, ◌∙◌, subst, arith, rules}
+use Rattle.std.proofs.Common.{◌∷◌, get_or, sym, ◌∙◌, subst, arith, rules}
 use Rattle.circuit.specs.Check.{table_wiring}
 use Rattle.circuit.specs.Public.{PublicOf}
 use Rattle.wires.specs.Read.{wiring_of}

@@ -1,4 +1,4 @@
-use Rattle.std.proofs.Common.{sym, subst, rules}
+use Rattle.std.proofs.Common.{sym, subst}
 use Rattle.label.specs.Hashes.{Asked}
 use Rattle.wires.specs.Read.{wiring_of}
 use Rattle.garbling.specs.Words.{labels_kept}

@@ -1,4 +1,4 @@
-use Rattle.std.proofs.Common.{sym, ◌∙◌, arith, rules}
+use Rattle.std.proofs.Common.{sym, ◌∙◌, arith}
 use Rattle.garbling.proofs.Kept.{kept_inside, kept_outside}
 use Rattle.garbling.proofs.words.label_below.Goals as goal
 

@@ -1,4 +1,4 @@
-use Rattle.std.proofs.Common.{◌≡◌, ℕ, suc, ◌*◌, List, length, get_or, set, ap, ◌∙◌, arith, rules}
+use Rattle.std.proofs.Common.{◌≡◌, ℕ, suc, ◌*◌, List, length, get_or, set, ◌∙◌, arith}
 use Rattle.opening.proofs.Regions.{two_set}
 use Rattle.opening.proofs.fill.fill_sheet.Goals as goal
 

@@ -1,4 +1,4 @@
-use Rattle.std.proofs.Common.{◌≡◌, ◌∷◌, ap, ◌∙◌, arith, rules}
+use Rattle.std.proofs.Common.{◌∷◌, ap, ◌∙◌, arith}
 use Rattle.opening.proofs.Regions.{two_and_rest}
 use Rattle.opening.proofs.fill.fill_store.Goals as goal
 

@@ -1,4 +1,4 @@
-use Rattle.std.proofs.Common.{◌≡◌, ℕ, ◌+◌, ◌*◌, List, [], length, sym, ap, ◌∙◌, subst, arith, length-set, rules}
+use Rattle.std.proofs.Common.{ℕ, ◌+◌, ◌*◌, List, length, ap, ◌∙◌, arith, rules}
 use Rattle.wires.specs.Wires.{Wiring, is_garbled}
 use Rattle.wires.specs.Read.{wiring_of}
 use Rattle.garbling.specs.declared.garble.MadeWire.TheVariants.{Gate, Plain}

@@ -1,9 +1,7 @@
-use Rattle.std.proofs.Common.{◌≡◌, ℕ, ◌+◌, ◌*◌, List, length, sym, refl, ap, ◌∙◌, subst, arith, rules}
+use Rattle.std.proofs.Common.{◌≡◌, ℕ, List, sym, refl, ◌∙◌, subst, arith}
 use Rattle.label.specs.Hashes.{HashFunction, Asked}
 use Rattle.wires.specs.Wires.{Wiring}
 use Rattle.wires.specs.Read.{wiring_of}
-use Rattle.garbling.specs.Garbling.{falses_below}
-use Rattle.garbling.specs.Words.{labels_kept}
 use Rattle.opening.proofs.SoFar.{asks_to, Garbled, garbled_none, garbled_more, gates_done, asked_none, asked_more}
 use Rattle.opening.proofs.gates.garble_wires.Goals as goal
 

@@ -1,4 +1,4 @@
-use Rattle.std.proofs.Common.{◌≡◌, ◌*◌, ◌≤◌, length}
+use Rattle.std.proofs.Common.{◌≡◌, ◌*◌, length}
 use Rattle.label.specs.Hashes.{Asked}
 use Rattle.wires.specs.Read.{wiring_of}
 use Rattle.opening.proofs.SoFar.{Garbled, asks_to}

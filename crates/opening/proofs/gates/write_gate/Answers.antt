@@ -1,4 +1,4 @@
-use Rattle.std.proofs.Common.{◌≡◌, ℕ, ◌+◌, ◌-◌, ◌*◌, List, ◌++◌, length, take, drop, sym, refl, ap, ◌∙◌, subst, arith, rules}
+use Rattle.std.proofs.Common.{◌≡◌, ℕ, ◌+◌, ◌-◌, ◌*◌, List, ◌++◌, length, take, drop, refl, ap, ◌∙◌, subst, arith}
 use Rattle.slices.specs.Little.{short_bytes}
 use Rattle.garbling.specs.Evaluation.{SentGate, sent}
 use Rattle.form.specs.Layout.{ciphertext_bytes, control_bytes}

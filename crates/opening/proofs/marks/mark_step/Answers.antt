@@ -1,4 +1,4 @@
-use Rattle.std.proofs.Common.{◌≡◌, ℕ, ◌+◌, ◌*◌, List, [], ◌∷◌, sym, refl, ap, ◌∙◌, subst, arith, rules}
+use Rattle.std.proofs.Common.{◌≡◌, ℕ, ◌*◌, List, [], sym, refl, subst, arith}
 use Rattle.std.proofs.lemmas.Bool.{cond-false}
 use Rattle.label.specs.Labels.{Label}
 use Rattle.label.specs.Hashes.{HashFunction, Asked}
@@ -8,7 +8,6 @@ use Rattle.garbling.specs.Marks.{marks_ask_at}
 use Rattle.garbling.specs.Words.{labels_kept}
 use Rattle.opening.specs.Rows.{Rows}
 use Rattle.opening.specs.MarkSteps.{MarkPair, false_bytes, true_bytes, marks_at}
-use Rattle.garbling.proofs.Kept.{kept_inside}
 use Rattle.opening.proofs.WireSteps.{count_stays, count_rises, has_place, with_more, with_none}
 use Rattle.opening.proofs.SoMarked.{none_found, marks_are, found_is, asks_are}
 use Rattle.opening.proofs.marks.mark_step.Goals as goal

@@ -1,4 +1,4 @@
-use Rattle.std.proofs.Common.{◌≡◌, ℕ, ◌+◌, ◌-◌, ◌*◌, List, ◌++◌, length, take, drop, sym, refl, ap, ◌∙◌, subst, arith, rules}
+use Rattle.std.proofs.Common.{◌≡◌, ℕ, ◌+◌, ◌-◌, ◌*◌, List, ◌++◌, length, take, drop, refl, ap, subst, arith}
 use Rattle.opening.specs.MarkSteps.{MarkPair, false_bytes, true_bytes}
 use Rattle.slices.proofs.Widths.{length-joined}
 use Rattle.opening.proofs.TwoRows.{rows_more}

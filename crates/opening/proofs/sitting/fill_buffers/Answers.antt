@@ -1,4 +1,4 @@
-use Rattle.std.proofs.Common.{◌≡◌, ℕ, ◌*◌, List, ◌++◌, ◌∙◌, arith, rules}
+use Rattle.std.proofs.Common.{ℕ, List, ◌++◌, ◌∙◌, arith}
 use Rattle.wires.specs.Wires.{Wiring}
 use Rattle.wires.specs.Read.{wiring_of}
 use Rattle.ledger.specs.Store.{label_words}

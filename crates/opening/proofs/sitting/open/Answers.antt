@@ -1,4 +1,4 @@
-use Rattle.std.proofs.Common.{ℕ, List, arith, rules}
+use Rattle.std.proofs.Common.{ℕ, List, arith}
 use Rattle.label.specs.Hashes.{HashFunction}
 use Rattle.wires.specs.Wires.{Wiring}
 use Rattle.circuit.specs.Check.{table_wiring}
