@@ -202,6 +202,6 @@ module _ (c : Wiring) (gs : List SentGate) (falses trues : List Mark) (h : FormF
     circuit = circuit_back c gs falses trues h.wires h.inputs;
     gates = gates_back;
     control_words = control_word_back;
-    false_marks_lem = falses_back;
-    true_marks_lem = trues_back;
+    false_marks = falses_back;
+    true_marks = trues_back;
   }

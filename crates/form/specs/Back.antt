@@ -38,8 +38,8 @@ pub record ReadsBack (c : Wiring) (gs : List SentGate) (falses trues : List Mark
   pub circuit : PublicOf c (form_wiring F)
   pub gates : gates_in F ≡ gs
   pub control_words : (k : ℕ) → k < length gs → control_word_at F c.wires (length gs) k ≡ control_word (get_or gs k no_gate).controls
-  pub false_marks_lem : false_marks_in F ≡ falses
-  pub true_marks_lem : true_marks_in F ≡ trues
+  pub false_marks : false_marks_in F ≡ falses
+  pub true_marks : true_marks_in F ≡ trues
 
 -- Writing and reading are inverse.
 abbrev pub FormBack : Type 0

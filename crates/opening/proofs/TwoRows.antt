@@ -1,7 +1,7 @@
 -- Two rows of items in one buffer: the first from its start, the second from a base on, both growing item by item.
 use Rattle.std.proofs.Common.{◌≡◌, ℕ, ◌+◌, ◌-◌, ◌≤◌, List, [], ◌∷◌, ◌++◌, length, take, drop, sym, refl, ap, ◌∙◌, arith, length-append, length-drop}
 use borrow.Rule.Slice.PartMut.{put_mid, same_len_mid}
-use Rattle.std.specs.List.{flat_map as joined}
+use Rattle.std.specs.List.{flat_map}
 use Rattle.std.proofs.lemmas.List.{take_all, flat_map_more, take-append-drop, drop-take, drop-append-le, length-take-le}
 use Rattle.opening.specs.Rows.{Rows}
 use Rattle.std.proofs.lemmas.Slice.{take-put_mid, take-put_mid_below, drop-put_mid}
@@ -44,17 +44,17 @@ module _ {X : Type 0} (bs xs ys : List X) (at later : ℕ) (apart : at + length 
 
 -- A row of items h is, from the start of a list, with one item more.
 row_more : {I X : Type 0} (h : I → List X) (n : ℕ) (is : List I) (i : I) (bs cs : List X)
-    → take (length (joined h is)) bs ≡ joined h is → n ≡ length (joined h is) → take (n + length (h i)) cs ≡ take n bs ++ h i
-    → take (length (joined h (is ++ (i ∷ [])))) cs ≡ joined h (is ++ (i ∷ []))
+    → take (length (flat_map h is)) bs ≡ flat_map h is → n ≡ length (flat_map h is) → take (n + length (h i)) cs ≡ take n bs ++ h i
+    → take (length (flat_map h (is ++ (i ∷ [])))) cs ≡ flat_map h (is ++ (i ∷ []))
 row_more h n is i bs cs so_far here written =
-    let more : joined h is ++ h i ≡ joined h (is ++ (i ∷ [])) = flat_map_more h [] is i in
-    let long : length (joined h (is ++ (i ∷ []))) ≡ n + length (h i) =
-    ap length (sym more) ∙ length-append (joined h is) (h i) ∙ ap (λ k. k + length (h i)) (sym here) in
+    let more : flat_map h is ++ h i ≡ flat_map h (is ++ (i ∷ [])) = flat_map_more h [] is i in
+    let long : length (flat_map h (is ++ (i ∷ []))) ≡ n + length (h i) =
+    ap length (sym more) ∙ length-append (flat_map h is) (h i) ∙ ap (λ k. k + length (h i)) (sym here) in
     ap (λ k. take k cs) long ∙ written ∙ ap (λ zs. zs ++ h i) (ap (λ k. take k bs) here ∙ so_far) ∙ more
 
 -- One item more, written in both rows.
 pub rows_more : {I X : Type 0} (f g : I → List X) (base at later : ℕ) (is : List I) (i : I) (bs cs : List X)
-    → Rows f g base is bs → at ≡ length (joined f is) → later ≡ base + length (joined g is)
+    → Rows f g base is bs → at ≡ length (flat_map f is) → later ≡ base + length (flat_map g is)
     → take (at + length (f i)) cs ≡ take at bs ++ f i
     → take (later - base + length (g i)) (drop base cs) ≡ take (later - base) (drop base bs) ++ g i
     → Rows f g base (is ++ (i ∷ [])) cs
@@ -65,9 +65,9 @@ rows_more f g base at later is i bs cs (firsts, seconds) here there one two = (
 
 -- The items are all: the buffer is the first row and then the second.
 pub rows_done : {I X : Type 0} (f g : I → List X) (base : ℕ) (is : List I) (bs : List X)
-    → Rows f g base is bs → length (joined f is) ≡ base → base + length (joined g is) ≡ length bs
-    → bs ≡ joined f is ++ joined g is
+    → Rows f g base is bs → length (flat_map f is) ≡ base → base + length (flat_map g is) ≡ length bs
+    → bs ≡ flat_map f is ++ flat_map g is
 rows_done f g base is bs (firsts, seconds) full whole =
     sym (take-append-drop base bs)
     ∙ (λ i. (ap (λ n. take n bs) (sym full) ∙ firsts) i
-    ++ (sym (take_all (length (joined g is)) (drop base bs) (let long = length-drop base bs in omega (arith, long))) ∙ seconds) i)
+    ++ (sym (take_all (length (flat_map g is)) (drop base bs) (let long = length-drop base bs in omega (arith, long))) ∙ seconds) i)

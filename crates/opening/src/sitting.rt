@@ -153,7 +153,7 @@ fn open_lent<H: Hash>(
     ledger: &mut Ledger,
     work: &mut [u64],
 ) -> Result<OpenSitting, Refusal>
-    ensures fault { Finds result (open_fault side table.now (record { form = length form.entry.now; store = length store.old; sheet = length sheet.old; work = length work.old }) tape.old.bytes.now tape.old.place (H.function hash.old)) }
+    ensures fault { Finds result (open_fault side table.now (record { form = length form.old; store = length store.old; sheet = length sheet.old; work = length work.old }) tape.old.bytes.now tape.old.place (H.function hash.old)) }
     ensures sitting { IfOk result (λ s. (s.side ≡ side) × (s.inputs ≡ (table_wiring table.now).inputs)) }
     ensures place { tape.new.place ≡ left result (tape.old.place + need_of (table_wiring table.now)) tape.old.place tape.old.place }
     ensures tape { tape.new.bytes ≡ tape.old.bytes }
@@ -196,7 +196,7 @@ fn open_wiped<H: Hash>(
     ledger: &mut Ledger,
     work: &mut [u64],
 ) -> Result<OpenSitting, Refusal>
-    ensures fault { Finds result (open_fault side table.now (record { form = length form.entry.now; store = length store.old; sheet = length sheet.old; work = length work.old }) tape.old.bytes.now tape.old.place (H.function hash.old)) }
+    ensures fault { Finds result (open_fault side table.now (record { form = length form.old; store = length store.old; sheet = length sheet.old; work = length work.old }) tape.old.bytes.now tape.old.place (H.function hash.old)) }
     ensures sitting { IfOk result (λ s. (s.side ≡ side) × (s.inputs ≡ (table_wiring table.now).inputs)) }
     ensures place { tape.new.place ≡ left result (tape.old.place + need_of (table_wiring table.now)) tape.old.place tape.old.place }
     ensures tape { tape.new.bytes ≡ tape.old.bytes }
@@ -225,7 +225,7 @@ pub fn open<H: Hash>(
     ledger: &mut Ledger,
     work: &mut [u64],
 ) -> Result<OpenSitting, Refusal>
-    ensures fault { Finds result (open_fault side table.now (record { form = length form.entry.now; store = length store.old; sheet = length sheet.old; work = length work.old }) tape.old.bytes.now tape.old.place (H.function hash.old)) }
+    ensures fault { Finds result (open_fault side table.now (record { form = length form.old; store = length store.old; sheet = length sheet.old; work = length work.old }) tape.old.bytes.now tape.old.place (H.function hash.old)) }
     ensures sitting { IfOk result (λ s. (s.side ≡ side) × (s.inputs ≡ (table_wiring table.now).inputs)) }
     ensures place { tape.new.place ≡ left result (tape.old.place + need_of (table_wiring table.now)) tape.old.place tape.old.place }
     ensures tape { tape.new.bytes ≡ tape.old.bytes }
