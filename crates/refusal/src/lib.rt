@@ -2,12 +2,14 @@
 #![tactic(auto)]
 
 ghost use Rattle.std.specs.Prelude.{◌≡◌};
-ghost use Rattle.refusal.specs.Told.{told, place_of};
+ghost use Rattle.refusal.specs.Told.{Finds, told, place_of, length_fault};
+
+use std::fmt;
 
 // A lent buffer, or a key, whose length a call asks for.
 #[derive(Clone, Copy, Debug)]
 pub enum Buffer {
-    Form,
+    Form = 1,
     Store,
     // the caller's own sheet, or side 0's where both sheets are lent
     Sheet,
@@ -82,15 +84,7 @@ impl Buffer {
     fn place(self) -> u32
         ensures { result ≡ place_of self }
     {
-        match self {
-            Buffer::Form => 1,
-            Buffer::Store => 2,
-            Buffer::Sheet => 3,
-            Buffer::Work => 4,
-            Buffer::Outputs => 5,
-            Buffer::Key => 6,
-            Buffer::OtherSheet => 7,
-        }
+        self as u32
     }
 }
 
@@ -163,4 +157,31 @@ impl Refusal {
             | Refusal::ScriptOrder => 0,
         }
     }
+}
+
+// The refusal in words.
+impl fmt::Display for Refusal {
+    fn fmt<W: fmt::Write>(&self, f: &mut fmt::Formatter<W>) -> fmt::Result {
+        f.write_str(match self {
+            Refusal::SizesCutShort => "fewer bytes than the sizes take",
+            Refusal::WireCount => "the number of wires is not 1 to 1536",
+            Refusal::InputCount => "the number of inputs is not 1 to 512, or exceeds the wires",
+            Refusal::Length => "the length does not follow from the number of wires",
+            Refusal::Kind { .. } => "a kind with bits that its wire cannot have",
+            Refusal::Pair { .. } => "a pair on an input, or one that does not lie below its gate",
+            Refusal::TruthTable { .. } => "a truth table that the gate's class does not allow",
+            Refusal::OutputCount => "the number of outputs is not 1 to 256",
+            _ => "not a fault of a table",
+        })
+    }
+}
+
+// A buffer or key of so many items has as many as are wanted, or is named.
+pub fn check_length(length: usize, wanted: usize, buffer: Buffer) -> Result<(), Refusal>
+    ensures { Finds result (length_fault wanted buffer length) }
+{
+    if length != wanted {
+        return Err(Refusal::WrongLength { buffer });
+    }
+    Ok(())
 }
