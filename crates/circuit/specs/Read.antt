@@ -3,7 +3,7 @@ use Rattle.std.specs.Prelude.{◌≡◌, ℕ, Bool, List, length, ◌==◌}
 use Rattle.wires.specs.declared.Class.{Class}
 use Rattle.circuit.specs.declared.check.TruthRule.{TruthRule}
 use Rattle.circuit.specs.declared.check.TruthRule.TheVariants.{ByClass, Blank}
-use Rattle.circuit.specs.declared.check.Table.{Table}
+use Rattle.circuit.specs.declared.table.Table.{Table}
 use Rattle.wires.specs.Read.{wiring_of}
 use Rattle.wires.specs.Wires.{allowed, garbled_wires, output_wires}
 use Rattle.circuit.specs.Check.{table_wiring}

@@ -8,6 +8,7 @@ ghost use Rattle.circuit.specs.Accepted.{Accepted};
 ghost use Rattle.circuit.specs.Read.{rule_of, Holds};
 ghost use Rattle.wires.specs.Read.{wiring_of};
 
+use crate::table::Table;
 use refusal::Refusal;
 use wires::{Circuit, Class};
 
@@ -138,14 +139,6 @@ pub fn check_wires(circuit: &Circuit, rule: TruthRule) -> Result<(), Refusal>
     Ok(())
 }
 
-// A checked table: its circuit, with the numbers of garbled gates and of outputs.
-#[derive(Clone, Copy)]
-pub struct Table<'a> {
-    circuit: Circuit<'a>,
-    garbled: u16,
-    outputs: u16,
-}
-
 impl<'a> Table<'a> {
     // The table in these bytes, or its first fault. It passes exactly when it meets every condition.
     pub fn check(bytes: &'a [u8]) -> Result<Table<'a>, Refusal>
@@ -167,34 +160,7 @@ impl<'a> Table<'a> {
             return Err(Refusal::Length);
         }
         check_wires(&circuit, TruthRule::ByClass)?;
-        let outputs = circuit.count_outputs();
-        check_outputs(outputs)?;
-        let garbled = circuit.count_garbled();
-        Ok(Table {
-            circuit,
-            garbled,
-            outputs,
-        })
-    }
-
-    // The wires.
-    pub fn circuit(&self) -> Circuit<'a>
-        ensures { result ≡ self.now.circuit }
-    {
-        self.circuit
-    }
-
-    // The number of garbled gates.
-    pub fn garbled(&self) -> u16
-        ensures { result ≡ self.now.garbled }
-    {
-        self.garbled
-    }
-
-    // The number of outputs.
-    pub fn outputs(&self) -> u16
-        ensures { result ≡ self.now.outputs }
-    {
-        self.outputs
+        check_outputs(circuit.count_outputs())?;
+        Ok(Table::counted(circuit))
     }
 }

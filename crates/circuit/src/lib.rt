@@ -4,9 +4,11 @@
 mod check;
 mod plain;
 mod publish;
+mod table;
 
 pub use check::{
-    MOST_INPUTS, MOST_OUTPUTS, MOST_WIRES, SIDES, Table, TruthRule, check_sizes, check_wires,
+    MOST_INPUTS, MOST_OUTPUTS, MOST_WIRES, SIDES, TruthRule, check_sizes, check_wires,
 };
 pub use plain::run_plain;
 pub use publish::{public_arrays, public_byte, public_table};
+pub use table::Table;

@@ -2,7 +2,7 @@
 use Rattle.std.specs.Prelude.{◌≡◌, ◌*◌, ◌≤◌, false, Ok, Err, Result, ◌==◌}
 use Rattle.refusal.specs.declared.Refusal.{Refusal}
 use Rattle.refusal.specs.Told.{told}
-use Rattle.circuit.specs.declared.check.Table.{Table}
+use Rattle.circuit.specs.declared.table.Table.{Table}
 use Rattle.form.specs.Layout.{form_length}
 use Rattle.ledger.specs.Store.{store_length}
 use Rattle.ledger.specs.Sheet.{sheet_length}

@@ -171,7 +171,26 @@ impl fmt::Display for Refusal {
             Refusal::Pair { .. } => "a pair on an input, or one that does not lie below its gate",
             Refusal::TruthTable { .. } => "a truth table that the gate's class does not allow",
             Refusal::OutputCount => "the number of outputs is not 1 to 256",
-            _ => "not a fault of a table",
+            Refusal::GateCount => "the number of garbled gates is not the one stated",
+            Refusal::WrongLength { .. } =>
+                "a buffer or a key of another length than the one wanted",
+            Refusal::NoSuchSide => "no such side",
+            Refusal::NoSuchInput { .. } => "no such input wire",
+            Refusal::NoBit { .. } => "a bit that is neither 0 nor 1",
+            Refusal::ControlBits { .. } => "control bits that must be zero",
+            Refusal::SheetInputs => "a sheet for another number of inputs",
+            Refusal::SheetMark { .. } => "a mark that its wire cannot have on this sheet",
+            Refusal::NeitherMark { .. } => "an output label that meets neither of its marks",
+            Refusal::ScriptLine { .. } => "a line of no known shape",
+            Refusal::ScriptLength => "a script of too many bytes",
+            Refusal::TapeShort => "less tape is left than the opening needs",
+            Refusal::OtherSide { .. } => "a wire of another side",
+            Refusal::AlreadyReleased { .. } => "a wire whose label is released",
+            Refusal::AlreadyWaiting { .. } => "a wire that has an entry waiting",
+            Refusal::NoEntry { .. } => "a wire with no entry",
+            Refusal::EqualMarks { .. } => "an output whose two marks are equal",
+            Refusal::LabelMissing { .. } => "an input wire whose label has not come",
+            Refusal::ScriptOrder => "a command before what it needs, or once too often",
         })
     }
 }

@@ -4,7 +4,7 @@ use Rattle.wires.specs.Wires.{output_wires}
 use Rattle.circuit.specs.Check.{or_else, outputs_fault}
 use Rattle.wires.specs.Read.{wiring_of}
 use Rattle.circuit.proofs.Tables.{past_length}
-use Rattle.circuit.proofs.check.Table.scan.Goals as goal
+use Rattle.circuit.proofs.table.Table.scan.Goals as goal
 
 pub returns-in_err-check_wires : goal.returns-in_err-check_wires
 returns-in_err-check_wires c =
@@ -28,6 +28,6 @@ returns-in_err-check_outputs c =
     record {
       fault =
           past ∙ ap (λ f. or_else f (outputs_fault (length (output_wires circuit)))) c.in_ok-check_wires.ensures
-          ∙ ap outputs_fault (sym c.count_outputs-outputs.ensures) ∙ c.in_err-check_outputs.ensures;
+          ∙ ap outputs_fault (sym c.count_outputs.ensures) ∙ c.in_err-check_outputs.ensures;
       holds = tt;
     }

@@ -1,5 +1,5 @@
 use Rattle.circuit.proofs.Accepts.{passes_exactly}
-use Rattle.circuit.proofs.check.Table.check.Goals as goal
+use Rattle.circuit.proofs.table.Table.check.Goals as goal
 
 pub returns : goal.returns
 returns c = record {
