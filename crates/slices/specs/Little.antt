@@ -1,5 +1,6 @@
 -- Little-endian numbers: the low byte comes first.
-use Rattle.std.specs.Prelude.{ℕ, zero, suc, ◌+◌, ◌*◌, ◌/◌, ◌%◌, List, [], ◌∷◌, slice_index}
+use Rattle.std.specs.Prelude.{ℕ, zero, suc, ◌+◌, ◌*◌, ◌/◌, ◌%◌, List, [], ◌∷◌, map, slice_index}
+use Rattle.std.specs.List.{range_with_len}
 
 -- The number of some bytes, the lowest first.
 unfoldable pub little : List ℕ → ℕ
@@ -10,6 +11,10 @@ little (b ∷ bs) = b + 256 * little bs
 unfoldable pub bytes_of : ℕ → ℕ → List ℕ
 bytes_of zero x = []
 bytes_of (suc n) x = x % 256 ∷ bytes_of n (x / 256)
+
+-- The n bytes at p, 0 past the end.
+abbrev pub bytes_at : ℕ → List ℕ → ℕ → List ℕ
+bytes_at n s p = map (λ i. slice_index s (p + i)) (range_with_len 0 n)
 
 -- A number of 16 bits: its two bytes, and the number of the two bytes at p.
 abbrev pub short_bytes : ℕ → List ℕ

@@ -2,38 +2,34 @@
 #![tactic(auto)]
 
 ghost use Rattle.std.specs.Prelude.{◌≡◌, ◌<◌, length, replicate, slice_index_or, slice_set};
-ghost use Rattle.slices.specs.Little.{short_at, word_at};
+ghost use Rattle.slices.specs.Little.{bytes_at, short_at, word_at};
 
 // What stands at a place, or the default past the end.
 pub fn item_or<T: Copy>(items: &[T], at: usize, default: T) -> T
     ensures { result ≡ slice_index_or items.now at default }
 {
-    if at < items.len() { items[at] } else { default }
+    items.get(at).copied().unwrap_or(default)
+}
+
+// The N bytes at a place; past the end they are 0.
+pub fn bytes_at<const N: usize>(bytes: &[u8], at: u32) -> [u8; N]
+    ensures { result ≡ bytes_at N bytes.now at }
+{
+    std::array::from_fn(|i| item_or(bytes, at as usize + i, 0))
 }
 
 // The number of 16 bits at a place; bytes past the end count as 0.
 pub fn short_at(bytes: &[u8], at: u32) -> u16
     ensures { result ≡ short_at bytes.now at }
 {
-    let at = at as usize;
-    u16::from_le_bytes([item_or(bytes, at, 0), item_or(bytes, at + 1, 0)])
+    u16::from_le_bytes(bytes_at(bytes, at))
 }
 
 // The number of 64 bits at a place; bytes past the end count as 0.
 pub fn word_at(bytes: &[u8], at: u32) -> u64
     ensures { result ≡ word_at bytes.now at }
 {
-    let at = at as usize;
-    u64::from_le_bytes([
-        item_or(bytes, at, 0),
-        item_or(bytes, at + 1, 0),
-        item_or(bytes, at + 2, 0),
-        item_or(bytes, at + 3, 0),
-        item_or(bytes, at + 4, 0),
-        item_or(bytes, at + 5, 0),
-        item_or(bytes, at + 6, 0),
-        item_or(bytes, at + 7, 0),
-    ])
+    u64::from_le_bytes(bytes_at(bytes, at))
 }
 
 // One item becomes this one.

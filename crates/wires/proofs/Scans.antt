@@ -1,6 +1,8 @@
 -- Steps of the loops that go over the wires in rising order and pick some of them.
 use Rattle.std.proofs.Common.{◌≡◌, ℕ, zero, suc, ◌+◌, ◌-◌, ◌<◌, ◌≤◌, Bool, true, false, cond, List, [], ◌∷◌, ◌++◌, map, length, take, set, sym, refl, ap, ◌∙◌, subst, add-zero, add-one, arith, length-append}
-use Rattle.std.proofs.lemmas.List.{append-nil, length_push, map_push, take_all, take_more_set}
+use Rattle.std.specs.List.{filter, range_with_len}
+use Rattle.std.proofs.lemmas.List.FromFn.{filter_of_map_range_with_len_more}
+use Rattle.std.proofs.lemmas.List.{append-nil, map-id, length_push, map_push, take_all, take_more_set}
 use Rattle.wires.specs.Wires.{wires_where}
 
 length-one_or_none : (b : Bool) (w : ℕ) → length (cond b (w ∷ []) []) ≡ cond b 1 0
@@ -71,3 +73,13 @@ pub picked_done : {X : Type 0} (p : ℕ → Bool) (f : ℕ → X) (w n next : �
 picked_done p f w n next os (count, written) end whole =
     let all : next ≡ length os = count ∙ ap (λ k. length (wires_where p k)) end ∙ sym whole in
     sym (take_all next os (omega (arith, all))) ∙ written ∙ ap (λ k. map f (wires_where p k)) end
+
+-- A chain that picks among all wires below n picks those that the test picks.
+pub where_filtered : (p : ℕ → Bool) (n : ℕ) → filter p (range_with_len 0 n) ≡ wires_where p n
+unfolding wires_where
+where_filtered p zero = refl
+where_filtered p (suc w) =
+    let more = rw add-one at (filter_of_map_range_with_len_more p (λ i. i) 0 w w (omega arith)) in
+    let ids = λ (k : ℕ). map-id (range_with_len 0 k) in
+    sym (ap (filter p) (ids (suc w))) ∙ more ∙ ap (λ xs. filter p xs ++ cond (p w) (w ∷ []) []) (ids w)
+    ∙ ap (λ xs. xs ++ cond (p w) (w ∷ []) []) (where_filtered p w)

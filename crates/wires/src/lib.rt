@@ -119,21 +119,15 @@ impl Circuit<'_> {
     pub fn count_outputs(&self) -> u16
         ensures { result ≡ length (output_wires (wiring_of self.now)) }
     {
-        let mut count = 0;
-        for wire in 0..self.wires {
-            count += u16::from(self.is_output(wire));
-        }
-        count
+        (0..self.wires).filter(|wire| self.is_output(*wire)).count() as u16
     }
 
     // The number of gates that are garbled.
     pub fn count_garbled(&self) -> u16
         ensures { result ≡ length (garbled_wires (wiring_of self.now)) }
     {
-        let mut count = 0;
-        for gate in 0..self.wires {
-            count += u16::from(self.is_garbled(gate));
-        }
-        count
+        (0..self.wires)
+            .filter(|wire| self.is_garbled(*wire))
+            .count() as u16
     }
 }
