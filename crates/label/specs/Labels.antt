@@ -1,5 +1,5 @@
 -- Labels: a left and a right half of 64 bits.
-use Rattle.std.specs.Prelude.{ℕ, ◌+◌, ◌%◌, Bool, List, ◌++◌, eqb}
+use Rattle.std.specs.Prelude.{ℕ, ◌+◌, ◌%◌, Bool, List, ◌++◌, ◌==◌}
 use Rattle.slices.specs.Little.{word_bytes, word_at}
 
 abbrev pub Label : Type 0
@@ -7,7 +7,7 @@ Label = ℕ × ℕ
 
 -- The colour of a label: bit 0 of its left half.
 abbrev pub colour_of : Label → Bool
-colour_of l = eqb (l.0 % 2) 1
+colour_of l = l.0 % 2 == 1
 
 -- A label in 16 bytes: left before right, each little-endian.
 abbrev pub label_bytes : Label → List ℕ

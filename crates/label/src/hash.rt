@@ -7,7 +7,7 @@ use crate::labels::Label;
 use crate::xor::ControlPair;
 
 // What a hash answers: a word and a control pair.
-#[derive(Clone, Copy, PartialEq, Eq, Debug)]
+#[derive(Clone, Copy, PartialEq, Eq, Default, Debug)]
 pub struct Answer {
     pub word: u64,
     pub pair: ControlPair,

@@ -5,11 +5,10 @@ ghost use Rattle.label.specs.Rows.{table_function};
 
 use crate::hash::{Answer, Hash};
 use crate::labels::{Label, colour};
-use crate::xor::ControlPair;
 use slices::item_or;
 
 // The answers for one tweak: for labels of colour 0 and of colour 1.
-#[derive(Clone, Copy)]
+#[derive(Clone, Copy, Default)]
 pub struct Row {
     pub zero: Answer,
     pub one: Answer,
@@ -21,26 +20,13 @@ pub struct AnswerTable<'a> {
     pub rows: &'a [Row],
 }
 
-// An answer of zeros.
-const BLANK: Answer = Answer {
-    word: 0,
-    pair: ControlPair {
-        low: false,
-        high: false,
-    },
-};
-
 impl Hash for AnswerTable<'_> {
     ghost function = { λ t. table_function t.rows.now };
 
     ghost asks = { λ before _ _ after. after.rows.now ≡ before.rows.now };
 
     fn query(&mut self, label: Label, tweak: u32) -> Answer {
-        let blank = Row {
-            zero: BLANK,
-            one: BLANK,
-        };
-        let row = item_or(self.rows, tweak as usize, blank);
+        let row = item_or(self.rows, tweak as usize, Row::default());
         if colour(label) { row.one } else { row.zero }
     }
 }

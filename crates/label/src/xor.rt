@@ -20,7 +20,10 @@ pub trait Xor: Copy {
 
     // A bit times an element: the element, or nothing.
     fn times(self, bit: bool) -> Self
-        ensures { result ≡ cond bit self nought };
+        ensures { result ≡ cond bit self nought }
+    {
+        if bit { self } else { Self::zero() }
+    }
 
     ghost assoc: { (a b c : Self) → plus (plus a b) c ≡ plus a (plus b c) };
 
@@ -52,14 +55,10 @@ impl Xor for u64 {
     fn xor(self, other: u64) -> u64 {
         self ^ other
     }
-
-    fn times(self, bit: bool) -> u64 {
-        if bit { self } else { 0 }
-    }
 }
 
 // Two bits that say how the halves of an output label are made up.
-#[derive(Clone, Copy, PartialEq, Eq, Debug)]
+#[derive(Clone, Copy, PartialEq, Eq, Default, Debug)]
 pub struct ControlPair {
     pub low: bool,
     pub high: bool,
@@ -79,27 +78,13 @@ impl Xor for ControlPair {
     ghost inverse = { Prim.search rules };
 
     fn zero() -> ControlPair {
-        ControlPair {
-            low: false,
-            high: false,
-        }
+        ControlPair::default()
     }
 
     fn xor(self, other: ControlPair) -> ControlPair {
         ControlPair {
             low: self.low != other.low,
             high: self.high != other.high,
-        }
-    }
-
-    fn times(self, bit: bool) -> ControlPair {
-        if bit {
-            self
-        } else {
-            ControlPair {
-                low: false,
-                high: false,
-            }
         }
     }
 }
@@ -124,9 +109,5 @@ impl Xor for (u64, u64) {
 
     fn xor(self, other: (u64, u64)) -> (u64, u64) {
         (self.0 ^ other.0, self.1 ^ other.1)
-    }
-
-    fn times(self, bit: bool) -> (u64, u64) {
-        if bit { self } else { (0, 0) }
     }
 }
