@@ -50,12 +50,9 @@ fn pick_outputs(circuit: &Circuit, values: &[bool], outputs: &mut [bool])
     requires { length outputs.old ≡ length (output_wires (wiring_of circuit.now)) }
     ensures { outputs.new ≡ at_outputs (wiring_of circuit.now) values.now }
 {
-    let mut next = 0;
-    for wire in 0..circuit.wires {
-        if circuit.is_output(wire) {
-            outputs[next] = item_or(values, usize::from(wire), false);
-            next += 1;
-        }
+    let wires = (0..circuit.wires).filter(|wire| circuit.is_output(*wire));
+    for (next, wire) in wires.enumerate() {
+        outputs[next] = item_or(values, usize::from(wire), false);
     }
 }
 

@@ -1,8 +1,11 @@
 -- Steps of the loops that go over the wires in rising order and pick some of them.
-use Rattle.std.proofs.Common.{◌≡◌, ℕ, zero, suc, ◌+◌, ◌-◌, ◌<◌, ◌≤◌, Bool, true, false, cond, List, [], ◌∷◌, ◌++◌, map, length, take, set, sym, refl, ap, ◌∙◌, subst, add-zero, add-one, arith, length-append}
-use Rattle.std.specs.List.{filter, range_with_len}
+use Rattle.std.proofs.Common.{◌≡◌, ℕ, zero, suc, ◌+◌, ◌-◌, ◌<◌, ◌≤◌, Bool, true, false, cond, List, [], ◌∷◌, ◌++◌, Option, Some, None, map, length, take, set, sym, refl, ap, ◌∙◌, subst, add-zero, add-one, arith, length-append, append_assoc}
+use Rattle.std.specs.List.{filter, range_with_len, enumerate_from}
+use Rattle.std.specs.Iterator.{AlwaysYields}
+use Rattle.std.proofs.lemmas.Simd.{map-map}
+use Rattle.std.proofs.lemmas.Iterator.{YieldsList}
 use Rattle.std.proofs.lemmas.List.FromFn.{filter_of_map_range_with_len_more}
-use Rattle.std.proofs.lemmas.List.{append-nil, map-id, length_push, map_push, take_all, take_more_set}
+use Rattle.std.proofs.lemmas.List.{append-nil, length-map, map-id, length_push, map_push, take_all, take_more_set}
 use Rattle.wires.specs.Wires.{wires_where}
 
 length-one_or_none : (b : Bool) (w : ℕ) → length (cond b (w ∷ []) []) ≡ cond b 1 0
@@ -83,3 +86,54 @@ where_filtered p (suc w) =
     let ids = λ (k : ℕ). map-id (range_with_len 0 k) in
     sym (ap (filter p) (ids (suc w))) ∙ more ∙ ap (λ xs. filter p xs ++ cond (p w) (w ∷ []) []) (ids w)
     ∙ ap (λ xs. xs ++ cond (p w) (w ∷ []) []) (where_filtered p w)
+
+-- A loop over the wires that a test picks, each with its number among them: those that came, and those to come.
+abbrev pub Ahead : {S : Type 0} → (S → Option (ℕ × ℕ) → S → Type 0) → S → List ℕ → List (ℕ × ℕ) → Type 0
+Ahead steps s all came =
+    (rest : List ℕ) × YieldsList {B = ℕ × ℕ} steps (λ p. (p.0, p.1)) s (enumerate_from (length came) rest)
+    × (map (λ (p : ℕ × ℕ). p.1) came ++ rest ≡ all)
+
+-- At first none has come.
+pub ahead_first : {S : Type 0} {steps : S → Option (ℕ × ℕ) → S → Type 0} {s : S} (p : ℕ → Bool) (n : ℕ)
+    → YieldsList {B = ℕ × ℕ} steps (λ p. (p.0, p.1)) s (enumerate_from 0 (filter p (range_with_len 0 n))) → Ahead steps s (wires_where p n) []
+ahead_first {steps = steps} {s = s} p n yields =
+    (wires_where p n, subst (λ ws. YieldsList {B = ℕ × ℕ} steps (λ p. (p.0, p.1)) s (enumerate_from 0 ws)) (where_filtered p n) yields, refl)
+
+-- The next one comes in its turn.
+pub ahead_next : {S : Type 0} {steps : S → Option (ℕ × ℕ) → S → Type 0} {s t : S} {all : List ℕ} (came : List (ℕ × ℕ)) (k w : ℕ)
+    → Ahead steps s all came → steps s (Some (k, w)) t
+    → (k ≡ length came) × (length came < length all) × Ahead steps t all (came ++ ((k, w) ∷ []))
+ahead_next came k w ([], yields, whole) step = absurd (yields.runs (k, w) _ step)
+ahead_next {S} {steps} {s} {t} {all} came k w (x ∷ rest, yields, whole) step =
+    let h = yields.runs.1 (k, w) _ step in
+    let same : w ≡ x = ap (λ (p : ℕ × ℕ). p.1) h.0 in
+    let done = map (λ (p : ℕ × ℕ). p.1) came in
+    let long : length all ≡ length came + suc (length rest) = sym (ap length whole) ∙ length-append done (x ∷ rest) ∙ ap (λ n. n + suc (length rest)) (length-map came (λ (p : ℕ × ℕ). p.1)) in
+    let turn = subst (λ n. AlwaysYields steps {B = ℕ × ℕ} (λ p. (p.0, p.1)) t (enumerate_from n rest)) (sym (length_push came (k, w))) h.1 in
+    let more = ap (λ ws. ws ++ rest) (map_push (λ (p : ℕ × ℕ). p.1) came (k, w)) ∙ append_assoc done (w ∷ []) rest in (
+      ap (λ (p : ℕ × ℕ). p.0) h.0,
+      omega (arith, long),
+      (rest, record { runs = turn }, more ∙ ap (λ y. done ++ (y ∷ rest)) same ∙ whole),
+    )
+
+-- After the last all have come.
+pub ahead_end : {S : Type 0} {steps : S → Option (ℕ × ℕ) → S → Type 0} {s t : S} {all : List ℕ} (came : List (ℕ × ℕ))
+    → Ahead steps s all came → steps s None t → map (λ (p : ℕ × ℕ). p.1) came ≡ all
+ahead_end came ([], yields, whole) step = sym (append-nil _) ∙ whole
+ahead_end came (x ∷ rest, yields, whole) step = absurd (yields.runs.0 _ step)
+
+-- The loop has written f of each wire that came, at its number.
+abbrev pub Written : {X : Type 0} → (ℕ → X) → List X → List (ℕ × ℕ) → Type 0
+Written f os came = take (length came) os ≡ map (λ (p : ℕ × ℕ). f p.1) came
+
+pub written_next : {X : Type 0} (f : ℕ → X) (os : List X) (came : List (ℕ × ℕ)) (k w : ℕ) (x : X)
+    → Written f os came → k ≡ length came → length came < length os → x ≡ f w → Written f (set os k x) (came ++ ((k, w) ∷ []))
+written_next f os came k w x so_far here room is =
+    ap (λ n. take n (set os k x)) (length_push came (k, w)) ∙ (λ i. take (length came + 1) (set os (here i) x))
+    ∙ take_more_set os (length came) x room ∙ (λ i. so_far i ++ (is i ∷ [])) ∙ sym (map_push (λ (p : ℕ × ℕ). f p.1) came (k, w))
+
+pub written_end : {X : Type 0} (f : ℕ → X) (os : List X) (all : List ℕ) (came : List (ℕ × ℕ))
+    → Written f os came → map (λ (p : ℕ × ℕ). p.1) came ≡ all → length os ≡ length all → os ≡ map f all
+written_end f os all came so_far ended whole =
+    let long : length os ≡ length came = whole ∙ sym (ap length ended) ∙ length-map came (λ (p : ℕ × ℕ). p.1) in
+    sym (take_all (length came) os (omega (arith, long))) ∙ so_far ∙ sym (map-map f (λ (p : ℕ × ℕ). p.1) came) ∙ ap (map f) ended

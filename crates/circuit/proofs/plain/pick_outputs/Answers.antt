@@ -1,38 +1,44 @@
-use Rattle.std.proofs.Common.{ℕ, Bool, false, get_or, sym, refl, ap, ◌∙◌, arith, rules}
-use Rattle.wires.specs.Wires.{wires_where, is_output}
+use Rattle.std.proofs.Common.{◌≡◌, ℕ, ◌<◌, ◌++◌, [], ◌∷◌, false, map, length, get_or, take, refl, sym, ap, subst, ◌∙◌, arith, rules}
+use borrow.Author.Tests.{tests}
+use Rattle.std.proofs.lemmas.List.{map_push, length_push, take_all, take_more_set}
+use Rattle.std.proofs.lemmas.Iterator.{YieldsList-from_range}
+use Rattle.std.proofs.lemmas.Iterator.Consumers.{YieldsList-from_filter, YieldsList-from_enumerate}
+use Rattle.std.specs.Iterator.Adapters.{enumerate_source, enumerate_count, filter_source, filter_callee}
+use Rattle.wires.specs.Wires.{is_output, output_wires}
 use Rattle.wires.specs.Read.{wiring_of}
-use Rattle.wires.proofs.Scans.{count_below, picked_taken, picked_left, picked_done}
+use Rattle.wires.proofs.Scans.{ahead_first, ahead_next, ahead_end, written_next, written_end}
 use Rattle.circuit.proofs.plain.pick_outputs.Goals as goal
-use Rattle.circuit.proofs.plain.pick_outputs.Goals.{then-is_output, else-is_output}
 
-pub loop-wire-init : goal.loop-wire-init
-unfolding wires_where
-loop-wire-init c = (refl, refl)
+pub loop-next-init : goal.loop-next-init
+loop-next-init c =
+    let n = c.args.circuit.now.wires in
+    let p = is_output (wiring_of c.args.circuit.now) in
+    let chain = ap enumerate_source c.into_iter-next-iterator.ensures.into_iter_gives ∙ c.enumerate-next-items.ensures.source in
+    record {
+      can = search rules;
+      finite = search rules;
+      ahead = ahead_first p n (YieldsList-from_enumerate (YieldsList-from_filter _ p (YieldsList-from_range 0 n n (ap filter_source chain ∙ c.filter-wires.ensures.source) (omega arith)) (ap filter_callee chain ∙ c.filter-wires.ensures.closure) (λ x b q h. search (rules, tests))) (ap enumerate_count c.into_iter-next-iterator.ensures.into_iter_gives ∙ c.enumerate-next-items.ensures.count));
+      written = refl;
+    }
 
 pub bounds-outputs-next : goal.bounds-outputs-next
 bounds-outputs-next c =
-    let room = count_below (is_output (wiring_of c.args.circuit.now)) c.loop-wire.wire c.args.circuit.now.wires (omega arith) (sym c.if-is_output.ensures) in
-    omega (arith, c.loop-wire.invariant.0)
+    let turn = ahead_next c.loop-next.yielded c.in-Some.next c.in-Some.wire c.loop-next.invariant.ahead c.in-Some.ensures.steps in
+    omega (arith, turn.0, turn.1)
 
-pub overflow_add-next : goal.overflow_add-next
-overflow_add-next c =
-    let room = count_below (is_output (wiring_of c.args.circuit.now)) c.loop-wire.wire c.args.circuit.now.wires (omega arith) (sym c.if-is_output.ensures) in
-    omega (arith, c.loop-wire.invariant.0)
-
-pub loop-wire-preserved : goal.loop-wire-preserved
-loop-wire-preserved c =
-    let p = is_output (wiring_of c.args.circuit.now) in
-    let f : ℕ → Bool = λ w. get_or c.args.values.now w false in
-    elim c.if-is_output.branch [
-      | then-is_output w ↦
-          let room = count_below p c.loop-wire.wire c.args.circuit.now.wires (omega arith) (sym w.if-is_output.ensures) in
-          picked_taken p f c.loop-wire.wire c.loop-wire.next _ c.loop-wire.outputs _ w.item_or.result c.loop-wire.invariant
-          (omega (arith, c.loop-wire.invariant.0)) (sym w.if-is_output.ensures) (w.item_or.ensures ∙ ap f w.from.ensures) w.next-is w.outputs-is
-      | else-is_output w ↦
-          picked_left p f c.loop-wire.wire c.loop-wire.next _ c.loop-wire.outputs _ c.loop-wire.invariant (sym w.if-is_output.ensures)
-          w.next-is w.outputs-is
-    ]
+pub loop-next-preserved : goal.loop-next-preserved
+loop-next-preserved c =
+    let turn = ahead_next c.loop-next.yielded c.in-Some.next c.in-Some.wire c.loop-next.invariant.ahead c.in-Some.ensures.steps in
+    record {
+      can = search rules;
+      finite = search rules;
+      ahead = turn.2;
+      written =
+          written_next (λ w. get_or c.args.values.now w false) c.loop-next.outputs c.loop-next.yielded c.in-Some.next c.in-Some.wire
+              c.item_or.result c.loop-next.invariant.written turn.0 (omega (arith, turn.1)) (c.item_or.ensures ∙ ap (λ w. get_or c.args.values.now w false) c.from.ensures);
+    }
 
 pub returns : goal.returns
 returns c =
-    picked_done (is_output (wiring_of c.args.circuit.now)) (λ w. get_or c.args.values.now w false) c.loop-wire.wire _ c.loop-wire.next c.loop-wire.outputs c.loop-wire.invariant (omega arith) (search rules)
+    written_end (λ w. get_or c.args.values.now w false) c.loop-next.outputs (output_wires (wiring_of c.args.circuit.now)) c.loop-next.yielded
+        c.loop-next.invariant.written (ahead_end c.loop-next.yielded c.loop-next.invariant.ahead c.in-None.ensures.steps) (search rules)
