@@ -1,5 +1,5 @@
 -- The public table as it is written, and what it shows of the circuit.
-use Rattle.std.proofs.Common.{◌≡◌, ℕ, ◌+◌, ◌-◌, ◌*◌, ◌/◌, ◌%◌, ◌<◌, ◌≤◌, eqb, List, [], ◌∷◌, ◌++◌, length, get_or, set, sym, refl, ap, ◌∙◌, subst, inl, inr, arith}
+use Rattle.std.proofs.Common.{◌≡◌, ℕ, ◌+◌, ◌-◌, ◌*◌, ◌/◌, ◌%◌, ◌<◌, ◌≤◌, eqb, List, [], ◌∷◌, ◌++◌, length, get_or, drop, sym, refl, ap, ◌∙◌, subst, inl, inr, arith}
 use borrow.Rule.Slice.PartMut.{put_mid}
 use Rattle.std.proofs.lemmas.List.FromFn.{get_or-map-range_with_len}
 use Rattle.std.proofs.lemmas.List.{append-nil, drop_all}
@@ -11,14 +11,11 @@ use Rattle.circuit.specs.Public.{public_kind, public_byte, public_arrays, public
 use Rattle.circuit.proofs.Tables.{same_wiring}
 
 -- Four bytes written in front, and the rest as a part.
-pub four_and_rest : (xs ys : List ℕ) (a b c d : ℕ) → 4 ≤ length xs
-    → (let zs : List ℕ = set (set (set (set xs 0 a) 1 b) 2 c) 3 d in put_mid 4 (length zs - 4) zs ys) ≡ a ∷ b ∷ c ∷ d ∷ ys
-four_and_rest [] ys a b c d long = absurd (omega arith)
-four_and_rest (_ ∷ []) ys a b c d long = absurd (omega arith)
-four_and_rest (_ ∷ _ ∷ []) ys a b c d long = absurd (omega arith)
-four_and_rest (_ ∷ _ ∷ _ ∷ []) ys a b c d long = absurd (omega arith)
-four_and_rest (_ ∷ _ ∷ _ ∷ _ ∷ xs) ys a b c d long =
-    ap (λ r. a ∷ b ∷ c ∷ d ∷ (ys ++ r)) (drop_all _ xs (omega arith)) ∙ ap (λ r. a ∷ b ∷ c ∷ d ∷ r) (append-nil ys)
+pub four_and_rest : (xs front ys : List ℕ) (a b c d : ℕ) → 4 ≤ length xs → front ≡ a ∷ b ∷ c ∷ d ∷ []
+    → (let zs : List ℕ = front ++ drop 4 xs in put_mid 4 (length zs - 4) zs ys) ≡ a ∷ b ∷ c ∷ d ∷ ys
+four_and_rest xs front ys a b c d long is =
+    ap (λ (f : List ℕ). let zs : List ℕ = f ++ drop 4 xs in put_mid 4 (length zs - 4) zs ys) is
+    ∙ ap (λ r. a ∷ b ∷ c ∷ d ∷ (ys ++ r)) (drop_all _ (drop 4 xs) (omega arith)) ∙ ap (λ r. a ∷ b ∷ c ∷ d ∷ r) (append-nil ys)
 
 -- A number of 16 bits is that of its two bytes.
 short_from_bytes : (n : ℕ) → n < 65536 → n % 256 + n / 256 % 256 * 256 ≡ n

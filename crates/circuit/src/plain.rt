@@ -6,7 +6,7 @@ ghost use Rattle.wires.specs.Read.{wiring_of};
 ghost use Rattle.wires.specs.Wires.{output_wires};
 ghost use Rattle.circuit.specs.Plain.{value_from, values_of, at_outputs, plain_outputs, plain_fault, PlainRun};
 
-use refusal::{Buffer, Refusal};
+use refusal::{Buffer, Refusal, check_length};
 use slices::item_or;
 use wires::{Circuit, look_up};
 
@@ -68,16 +68,9 @@ pub fn run_plain(
     ensures outputs { outputs.new ≡ (if is_ok result then plain_outputs (wiring_of circuit.now) inputs.now else outputs.old) }
     ensures run { is_ok result ≡ true → PlainRun (wiring_of circuit.now) inputs.now values.new outputs.new }
 {
-    if values.len() != usize::from(circuit.wires) {
-        return Err(Refusal::WrongLength {
-            buffer: Buffer::Work,
-        });
-    }
-    if outputs.len() != usize::from(circuit.count_outputs()) {
-        return Err(Refusal::WrongLength {
-            buffer: Buffer::Outputs,
-        });
-    }
+    let marked = usize::from(circuit.count_outputs());
+    check_length(values.len(), usize::from(circuit.wires), Buffer::Work)?;
+    check_length(outputs.len(), marked, Buffer::Outputs)?;
     fill_values(circuit, inputs, values);
     pick_outputs(circuit, values, outputs);
     Ok(())

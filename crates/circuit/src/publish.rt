@@ -35,19 +35,12 @@ pub fn public_byte(circuit: &Circuit, at: usize) -> u8
 
 // The public arrays, as many bytes of them as there is room for.
 pub fn public_arrays(circuit: &Circuit, arrays: &mut [u8])
-    ensures { arrays.new ≡ public_first (wiring_of circuit.now) (length arrays.old) }
+    ensures first { arrays.new ≡ public_first (wiring_of circuit.now) (length arrays.old) }
+    ensures whole { length arrays.old ≡ 5 * circuit.now.wires → arrays.new ≡ public_arrays (wiring_of circuit.now) }
 {
     for at in 0..arrays.len() {
         arrays[at] = public_byte(circuit, at);
     }
-}
-
-// All of the public arrays.
-fn write_arrays(circuit: &Circuit, arrays: &mut [u8])
-    requires { length arrays.old ≡ 5 * circuit.now.wires }
-    ensures { arrays.new ≡ public_arrays (wiring_of circuit.now) }
-{
-    public_arrays(circuit, arrays);
 }
 
 // The public table, written into a buffer of a table's length.
@@ -61,10 +54,7 @@ pub fn public_table(circuit: &Circuit, table: &mut [u8]) -> Result<(), Refusal>
     }
     let [n0, n1] = circuit.wires.to_le_bytes();
     let [m0, m1] = circuit.inputs.to_le_bytes();
-    table[0] = n0;
-    table[1] = n1;
-    table[2] = m0;
-    table[3] = m1;
-    write_arrays(circuit, &mut table[4..]);
+    table[..4].copy_from_slice(&[n0, n1, m0, m1]);
+    public_arrays(circuit, &mut table[4..]);
     Ok(())
 }

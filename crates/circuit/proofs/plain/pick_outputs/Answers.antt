@@ -1,6 +1,5 @@
-use Rattle.std.proofs.Common.{◌≡◌, ℕ, ◌<◌, ◌++◌, [], ◌∷◌, false, map, length, get_or, take, refl, sym, ap, subst, ◌∙◌, arith, rules}
+use Rattle.std.proofs.Common.{false, get_or, refl, ap, ◌∙◌, arith, rules}
 use borrow.Author.Tests.{tests}
-use Rattle.std.proofs.lemmas.List.{map_push, length_push, take_all, take_more_set}
 use Rattle.std.proofs.lemmas.Iterator.{YieldsList-from_range}
 use Rattle.std.proofs.lemmas.Iterator.Consumers.{YieldsList-from_filter, YieldsList-from_enumerate}
 use Rattle.std.specs.Iterator.Adapters.{enumerate_source, enumerate_count, filter_source, filter_callee}
@@ -35,10 +34,10 @@ loop-next-preserved c =
       ahead = turn.2;
       written =
           written_next (λ w. get_or c.args.values.now w false) c.loop-next.outputs c.loop-next.yielded c.in-Some.next c.in-Some.wire
-              c.item_or.result c.loop-next.invariant.written turn.0 (omega (arith, turn.1)) (c.item_or.ensures ∙ ap (λ w. get_or c.args.values.now w false) c.from.ensures);
+          c.item_or.result c.loop-next.invariant.written turn.0 (omega (arith, turn.1)) (c.item_or.ensures ∙ ap (λ w. get_or c.args.values.now w false) c.from.ensures);
     }
 
 pub returns : goal.returns
 returns c =
     written_end (λ w. get_or c.args.values.now w false) c.loop-next.outputs (output_wires (wiring_of c.args.circuit.now)) c.loop-next.yielded
-        c.loop-next.invariant.written (ahead_end c.loop-next.yielded c.loop-next.invariant.ahead c.in-None.ensures.steps) (search rules)
+    c.loop-next.invariant.written (ahead_end c.loop-next.yielded c.loop-next.invariant.ahead c.in-None.ensures.steps) (search rules)

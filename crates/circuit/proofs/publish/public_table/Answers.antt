@@ -10,9 +10,10 @@ returns c =
     let n = c.to_le_bytes.ensures in
     let m = c.to_le_bytes-2.ensures in
     let circuit = wiring_of c.args.circuit.now in
+    let arrays = c.public_arrays.ensures.whole (search rules) in
     let written =
-    four_and_rest c.args.table.now c.write_arrays.new.arrays _ _ _ _ (omega arith)
-    ∙ (λ i. get_or (n i) 0 0 ∷ get_or (n i) 1 0 ∷ get_or (m i) 0 0 ∷ get_or (m i) 1 0 ∷ c.write_arrays.ensures i) in
+    four_and_rest c.args.table.now c.copy_from_slice.new.self c.public_arrays.new.arrays _ _ _ _ (omega arith) (search rules)
+    ∙ (λ i. get_or (n i) 0 0 ∷ get_or (n i) 1 0 ∷ get_or (m i) 0 0 ∷ get_or (m i) 1 0 ∷ arrays i) in
     record {
       fault = search rules;
       table = written;
