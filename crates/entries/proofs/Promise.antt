@@ -163,8 +163,7 @@ pub one_label : OneLabel
 one_label side c Δ ls sound lines kept = one_label_in side c Δ ls sound lines kept
 
 -- What is counted in a ledger is what the lines count that led to it.
-pub counts_lines : (l : Ledger) (r : Result ClosedSitting (OpenSitting × Refusal)) → IfOk r (Counts l) → IfOk r (CountsLines l)
-counts_lines l (Ok closed) (waiting, released) = λ side c Δ ls sound lines kept is.
+pub counts_lines : (l : Ledger) (closed : ClosedSitting) → Counts l closed → CountsLines l closed
+counts_lines l closed (waiting, released) side c Δ ls sound lines kept is =
     let laws = one_label side c Δ ls sound lines kept in
     (waiting ∙ sym (ap waiting_in is) ∙ laws.waiting, released ∙ sym (ap released_in is) ∙ laws.counted)
-counts_lines l (Err e) h = h

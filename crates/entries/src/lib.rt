@@ -1,14 +1,16 @@
 // The calls of an open sitting: a bit is entered, changed and released, and the sitting is closed.
 #![tactic(auto)]
 
-ghost use Rattle.std.specs.Prelude.{◌≡◌, ◌+◌, ◌*◌, ◌<◌, ◌≤◌, ◌++◌, length, take, drop, is_ok, IfOk, if◌then◌else◌, ◌==◌};
+ghost use Rattle.std.specs.Prelude.{◌≡◌, ◌+◌, ◌*◌, ◌<◌, length, is_ok, IfOk, if◌then◌else◌};
 ghost use Rattle.refusal.specs.Told.{Finds};
 ghost use Rattle.label.specs.Sums.{halves};
-ghost use Rattle.label.specs.Labels.{label_bytes};
 ghost use Rattle.gate.specs.Sums.{shifted};
+ghost use Rattle.circuit.specs.Check.{or_else};
+ghost use Rattle.ledger.specs.Entries.{act_fault};
+ghost use Rattle.ledger.specs.Ledger.{entry_at, moved};
 ghost use Rattle.ledger.specs.Store.{stored_offset, stored_label, without_label};
 ghost use Rattle.ledger.specs.Sheet.{with_label};
-ghost use Rattle.entries.specs.Steps.{store_fault, sheet_fault, input_fault, side_fault, given_fault, wire_fault, enter_fault, enter_after, change_fault, change_after, release_fault, release_after, label_for, close_fault, zeroed};
+ghost use Rattle.entries.specs.Steps.{store_fault, input_fault, side_fault, given_fault, wire_fault, enter_fault, enter_after, change_fault, change_after, release_fault, release_after, label_for, close_fault, zeroed};
 ghost use Rattle.entries.specs.Closing.{FindsOrBack, Counts};
 ghost use Rattle.entries.specs.OneLabel.{OneLabel, CountsLines};
 ghost use Rattle.entries.specs.Sample.{SampleKept};
@@ -17,8 +19,7 @@ use gate::shift;
 use label::{Label, to_bytes};
 use ledger::{Act, ENTRIES, Ledger};
 use opening::OpenSitting;
-use refusal::{Buffer, Refusal};
-use slices::overwrite;
+use refusal::{Buffer, Refusal, check_length};
 
 // A closed sitting: how many entries still waited, and how many labels were released.
 #[derive(Drop)]
@@ -47,7 +48,7 @@ impl ClosedSitting {
 fn check_input(ledger: &Ledger, wire: u32) -> Result<(), Refusal>
     ensures { Finds result (input_fault ledger.now wire) }
 {
-    if wire >= u32::from(ledger.inputs()) || wire >= ENTRIES {
+    if wire >= u32::from(ledger.inputs()) || wire as usize >= ENTRIES {
         return Err(Refusal::NoSuchInput { given: wire });
     }
     Ok(())
@@ -64,17 +65,27 @@ fn check_side(ledger: &Ledger, wire: u32) -> Result<(), Refusal>
 }
 
 // A wire and a bit for it, as given.
-fn check_bit(ledger: &Ledger, wire: u32, bit: u32) -> Result<bool, Refusal>
-    ensures fault { Finds result (given_fault ledger.now wire bit) }
-    ensures value { IfOk result (λ b. b ≡ (bit == 1)) }
+fn check_bit(ledger: &Ledger, wire: u32, bit: u32) -> Result<(), Refusal>
+    ensures { Finds result (given_fault ledger.now wire bit) }
 {
     check_input(ledger, wire)?;
     if bit > 1 {
         return Err(Refusal::NoBit { wire });
     }
-    check_side(ledger, wire)?;
-    Ok(bit == 1)
+    check_side(ledger, wire)
 }
+
+// A wire and a bit for it are checked as given, and the act is done on the wire's entry.
+fn set_bit(ledger: &mut Ledger, wire: u32, bit: u32, act: Act) -> Result<(), Refusal>
+    ensures fault { Finds result (or_else (given_fault ledger.old wire bit) (act_fault (entry_at ledger.old wire) act wire)) }
+    ensures ledger { ledger.new ≡ (if is_ok result then moved ledger.old wire act else ledger.old) }
+{
+    check_bit(ledger, wire, bit)?;
+    ledger.move_entry(wire, act)?;
+    Ok(())
+}
+
+// The calls are lent ledger, store and sheet apart and take a wire: the project asks for these parameters.
 
 // A bit is entered on a wire that has none.
 pub fn enter(
@@ -86,9 +97,7 @@ pub fn enter(
     ensures fault { Finds result (enter_fault ledger.old wire bit) }
     ensures ledger { ledger.new ≡ (if is_ok result then enter_after ledger.old wire bit else ledger.old) }
 {
-    let bit = check_bit(ledger, wire, bit)?;
-    ledger.move_entry(wire, Act::Enter { bit })?;
-    Ok(())
+    set_bit(ledger, wire, bit, Act::Enter { bit: bit == 1 })
 }
 
 // A bit that waits is changed.
@@ -101,9 +110,7 @@ pub fn change(
     ensures fault { Finds result (change_fault ledger.old wire bit) }
     ensures ledger { ledger.new ≡ (if is_ok result then change_after ledger.old wire bit else ledger.old) }
 {
-    let bit = check_bit(ledger, wire, bit)?;
-    ledger.move_entry(wire, Act::Change { bit })?;
-    Ok(())
+    set_bit(ledger, wire, bit, Act::Change { bit: bit == 1 })
 }
 
 // A wire, as given.
@@ -114,28 +121,12 @@ fn check_wire(ledger: &Ledger, wire: u32) -> Result<(), Refusal>
     check_side(ledger, wire)
 }
 
-// The store has the length that the ledger's number of inputs asks for.
+// A store of so many words has as many as the ledger's number of inputs asks for.
 fn check_store(ledger: &Ledger, words: usize) -> Result<(), Refusal>
     ensures { Finds result (store_fault ledger.now words) }
 {
-    if words != 2 + 2 * usize::from(ledger.inputs()) {
-        return Err(Refusal::WrongLength {
-            buffer: Buffer::Store,
-        });
-    }
-    Ok(())
-}
-
-// So has the sheet.
-fn check_sheet(ledger: &Ledger, bytes: usize) -> Result<(), Refusal>
-    ensures { Finds result (sheet_fault ledger.now bytes) }
-{
-    if bytes != 2 + 17 * usize::from(ledger.inputs()) {
-        return Err(Refusal::WrongLength {
-            buffer: Buffer::Sheet,
-        });
-    }
-    Ok(())
+    let wanted = 2 + 2 * usize::from(ledger.inputs());
+    check_length(words, wanted, Buffer::Store)
 }
 
 // The label of a wire for a bit is taken out of the store: its two words are zero after.
@@ -144,20 +135,10 @@ fn take_label(store: &mut [u64], wire: u32, bit: bool) -> Label
     ensures label { result ≡ shifted halves (stored_offset store.old) (stored_label store.old wire) bit }
     ensures store { store.new ≡ without_label store.old wire }
 {
-    let left = 2 + 2 * wire as usize;
-    let right = 3 + 2 * wire as usize;
-    let label = shift((store[0], store[1]), (store[left], store[right]), bit);
-    store[left] = 0;
-    store[right] = 0;
+    let at = 2 + 2 * wire as usize;
+    let label = shift((store[0], store[1]), (store[at], store[at + 1]), bit);
+    store[at..at + 2].fill(0);
     label
-}
-
-// The bytes of a label are written at a place.
-fn put_label(sheet: &mut [u8], at: usize, label: Label)
-    requires { at + 16 ≤ length sheet.old }
-    ensures { sheet.new ≡ take at sheet.old ++ (label_bytes label ++ drop (at + 16) sheet.old) }
-{
-    sheet[at..at + 16].copy_from_slice(&to_bytes(label));
 }
 
 // A label is written on the sheet of so many inputs: its mark, and its bytes in its room.
@@ -166,7 +147,8 @@ fn show_label(sheet: &mut [u8], inputs: u16, wire: u32, label: Label)
     ensures { sheet.new ≡ with_label inputs sheet.old wire label }
 {
     sheet[2 + wire as usize] = 1;
-    put_label(sheet, 2 + inputs as usize + 16 * wire as usize, label);
+    let room = 2 + usize::from(inputs) + 16 * wire as usize;
+    sheet[room..room + 16].copy_from_slice(&to_bytes(label));
 }
 
 // The bit that waits on a wire is released: its label goes from the store to the sheet, and the entry is released.
@@ -182,34 +164,14 @@ pub fn release(
     ensures store { store.new ≡ (if is_ok result then without_label store.old wire else store.old) }
     ensures sheet { sheet.new ≡ (if is_ok result then with_label ledger.old.inputs sheet.old wire (label_for ledger.old store.old wire) else sheet.old) }
 {
-    check_store(ledger, store.len())?;
-    check_sheet(ledger, sheet.len())?;
-    check_wire(ledger, wire)?;
     let inputs = ledger.inputs();
+    check_store(ledger, store.len())?;
+    check_length(sheet.len(), 2 + 17 * usize::from(inputs), Buffer::Sheet)?;
+    check_wire(ledger, wire)?;
     let bit = ledger.move_entry(wire, Act::Release)?;
     let label = take_label(store, wire, bit);
     show_label(sheet, inputs, wire, label);
     Ok(())
-}
-
-// The store is zeroed and the entries are counted, or the sitting comes back.
-fn end_sitting(
-    sitting: OpenSitting,
-    ledger: &Ledger,
-    store: &mut [u64],
-) -> Result<ClosedSitting, (OpenSitting, Refusal)>
-    ensures fault { FindsOrBack sitting result (close_fault ledger.now (length store.old)) }
-    ensures counts { IfOk result (Counts ledger.now) }
-    ensures store { store.new ≡ (if is_ok result then zeroed store.old else store.old) }
-{
-    if let Err(refusal) = check_store(ledger, store.len()) {
-        return Err((sitting, refusal));
-    }
-    overwrite(store, 0);
-    Ok(ClosedSitting {
-        waiting: ledger.count_waiting(),
-        released: ledger.count_released(),
-    })
 }
 
 // The sitting is closed: the store is zero after, and what is left are the counts of the entries that wait and that are released.
@@ -226,5 +188,10 @@ pub fn close(
     ensures book { OneLabel }
     ensures sample { SampleKept }
 {
-    end_sitting(sitting, ledger, store)
+    check_store(ledger, store.len()).map_err(|refusal| (sitting, refusal))?;
+    store.fill(0);
+    Ok(ClosedSitting {
+        waiting: ledger.count_waiting(),
+        released: ledger.count_released(),
+    })
 }

@@ -2,12 +2,18 @@ use Rattle.entries.proofs.Promise.{one_label, counts_lines}
 use Rattle.entries.proofs.SampleBook.{sample_kept}
 use Rattle.entries.proofs.close.Goals as goal
 
-pub returns : goal.returns
-returns c = record {
-  fault = c.end_sitting.ensures.fault;
-  counts = c.end_sitting.ensures.counts;
-  store = c.end_sitting.ensures.store;
-  lines = counts_lines c.args.ledger.now c.end_sitting.result c.end_sitting.ensures.counts;
-  book = one_label;
-  sample = sample_kept;
-}
+pub returns-in_err-map_err-clause-book : goal.returns-in_err-map_err-clause-book
+returns-in_err-map_err-clause-book c = one_label
+
+pub returns-in_err-map_err-clause-sample : goal.returns-in_err-map_err-clause-sample
+returns-in_err-map_err-clause-sample c = sample_kept
+
+pub returns-clause-lines : goal.returns-clause-lines
+returns-clause-lines c =
+    counts_lines c.args.ledger.now (record { waiting = c.count_waiting.result; released = c.count_released.result }) (c.count_waiting.ensures, c.count_released.ensures)
+
+pub returns-clause-book : goal.returns-clause-book
+returns-clause-book c = one_label
+
+pub returns-clause-sample : goal.returns-clause-sample
+returns-clause-sample c = sample_kept
