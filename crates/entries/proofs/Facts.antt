@@ -10,9 +10,6 @@ use Rattle.ledger.specs.Ledger.{owner_at, entry_at}
 use Rattle.circuit.proofs.Accepts.{unless_none, or_else_none}
 use Rattle.entries.specs.Steps.{has_input, store_fault, sheet_fault, wire_fault, given_fault, enter_fault, change_fault, release_fault}
 
-some_none : {A : Type 0} {X : Type 0} (a : A) → ◌≡◌ {A = Option A} (Some a) None → X
-some_none a e = let z : ◌≡◌ {A = ℕ} 0 1 = cc in absurd (omega arith)
-
 -- An own input wire.
 abbrev pub OwnInput : Ledger → ℕ → Type 0
 OwnInput l w = (w < l.inputs) × (w < 512) × (owner_at l w ≡ l.side)
@@ -35,18 +32,18 @@ given_own l w bit e =
 
 enters_empty : (e : Entry) (b : Bool) (w : ℕ) → act_fault e (EnterAct b) w ≡ None → e ≡ Empty
 enters_empty Empty b w h = refl
-enters_empty (Waiting x) b w h = some_none (34, w) h
-enters_empty Released b w h = some_none (33, w) h
+enters_empty (Waiting x) b w h = cc
+enters_empty Released b w h = cc
 
 changes_waiting : (e : Entry) (b : Bool) (w : ℕ) → act_fault e (ChangeAct b) w ≡ None → e ≡ Waiting (bit_of e)
-changes_waiting Empty b w h = some_none (35, w) h
+changes_waiting Empty b w h = cc
 changes_waiting (Waiting x) b w h = refl
-changes_waiting Released b w h = some_none (33, w) h
+changes_waiting Released b w h = cc
 
 releases_waiting : (e : Entry) (w : ℕ) → act_fault e ReleaseAct w ≡ None → e ≡ Waiting (bit_of e)
-releases_waiting Empty w h = some_none (35, w) h
+releases_waiting Empty w h = cc
 releases_waiting (Waiting x) w h = refl
-releases_waiting Released w h = some_none (33, w) h
+releases_waiting Released w h = cc
 
 pub enter_facts : (l : Ledger) (w bit : ℕ) → enter_fault l w bit ≡ None → OwnInput l w × (entry_at l w ≡ Empty)
 enter_facts l w bit e =
@@ -71,11 +68,11 @@ abbrev pub entry_of : Bool → Bool → Bool → Entry
 entry_of released entered last = cond released Released (cond (entered && not released) (Waiting last) Empty)
 
 pub empty_unentered : (r n x : Bool) → entry_of r n x ≡ Empty → (r ≡ false) × (n ≡ false)
-empty_unentered true n x e = let z : ◌≡◌ {A = ℕ} 0 1 = cc in absurd (omega arith)
-empty_unentered false true x e = let z : ◌≡◌ {A = ℕ} 0 1 = cc in absurd (omega arith)
+empty_unentered true n x e = absurd cc
+empty_unentered false true x e = absurd cc
 empty_unentered false false x e = (refl, refl)
 
 pub waiting_entered : (r n x y : Bool) → entry_of r n x ≡ Waiting y → (r ≡ false) × (n ≡ true)
-waiting_entered true n x y e = let z : ◌≡◌ {A = ℕ} 0 1 = cc in absurd (omega arith)
+waiting_entered true n x y e = absurd cc
 waiting_entered false true x y e = (refl, refl)
-waiting_entered false false x y e = let z : ◌≡◌ {A = ℕ} 0 1 = cc in absurd (omega arith)
+waiting_entered false false x y e = absurd cc

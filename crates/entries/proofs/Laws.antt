@@ -1,6 +1,6 @@
 -- One label for each wire, by induction over the lines of a kept book.
 use Rattle.std.proofs.Common.{◌≡◌, ℕ, ◌+◌, ◌<◌, ◌≤◌, Bool, true, false, cond, not, ◌&&◌, ◌||◌, eqb, ◌⊎◌, List, [], ◌∷◌, ◌++◌, length, None, sym, refl, ap, ◌∙◌, subst, inl, inr, zero-add, arith}
-use Rattle.std.proofs.lemmas.Bool.{cases_Bool, eqb-true, lt-ltb, or_parts, or_cases, both_ways}
+use Rattle.std.proofs.lemmas.Bool.{cases_Bool, eqb-true, lt-ltb, or_parts, or_cases, or_right, both_ways}
 use Rattle.label.specs.Labels.{Label}
 use Rattle.wires.specs.Wires.{Wiring, number, side_at, is_input, wires_where}
 use Rattle.ledger.specs.Ledger.{owners_of, owner_of, owner_at}
@@ -10,10 +10,6 @@ use Rattle.entries.specs.Book.{Line, done_line, refused_line, opened_state, Kept
 use Rattle.entries.proofs.Counting.{count_same, count_flip, count_only}
 use Rattle.entries.proofs.Facts.{OwnInput}
 use Rattle.entries.proofs.States.{self, apart, ledger_by, store_by, sheet_by, state_by, Entered, enter_below, change_below, release_below, state_by_lem}
-
-either : (b : Bool) → (b || true) ≡ true
-either true = refl
-either false = refl
 
 -- A wire that is not released has no done release.
 unreleased : (lines : List Line) (w : ℕ) → released_by lines w ≡ false → done_releases lines w ≡ 0
@@ -95,7 +91,7 @@ module _ (side : ℕ) (c : Wiring) (Δ : Label) (ls : List Label) (few : c.input
   unfolding entered_by released_by
   released_entered [] kept w on = absurd (both_ways false refl on)
   released_entered (done_line (enter_call v bit) ∷ lines) kept w on =
-      ap (λ b. eqb v w || b) (released_entered lines (below _ lines kept) w on) ∙ either (eqb v w)
+      or_right (eqb v w) (entered_by lines w) (released_entered lines (below _ lines kept) w on)
   released_entered (done_line (change_call v bit) ∷ lines) kept w on = released_entered lines (below _ lines kept) w on
   released_entered (done_line (release_call v) ∷ lines) kept w on =
       by (or_cases (eqb v w) (released_by lines w) on) (released_entered lines (below _ lines kept) w)
@@ -137,7 +133,7 @@ module _ (side : ℕ) (c : Wiring) (Δ : Label) (ls : List Label) (few : c.input
   unfolding released_by last_bit_by
   stays_line (done_line (enter_call v bit)) lines kept w on = (on, given_after lines v w (eqb bit 1) (entered lines v bit kept).1 on)
   stays_line (done_line (change_call v bit)) lines kept w on = (on, given_after lines v w (eqb bit 1) (changed lines v bit kept).1 on)
-  stays_line (done_line (release_call v)) lines kept w on = (ap (λ b. eqb v w || b) on ∙ either (eqb v w), refl)
+  stays_line (done_line (release_call v)) lines kept w on = (or_right (eqb v w) (released_by lines w) on, refl)
   stays_line (done_line close_call) lines kept w on = (on, refl)
   stays_line (refused_line call) lines kept w on = (on, refl)
 
@@ -181,6 +177,14 @@ module _ (side : ℕ) (c : Wiring) (Δ : Label) (ls : List Label) (few : c.input
       (λ i. self v i || released_by lines v)
       (λ w ne i. apart w v ne i || released_by lines w)
 
+  -- A line that leaves each wire waiting or not, and released or not, leaves the counts.
+  counts_stay : (line : Line) (lines : List Line) → ((w : ℕ) → waiting_by (line ∷ lines) w ≡ waiting_by lines w)
+      → ((w : ℕ) → released_by (line ∷ lines) w ≡ released_by lines w)
+      → waiting_count (line ∷ lines) m + released_count (line ∷ lines) m ≡ waiting_count lines m + released_count lines m
+  counts_stay line lines waits gone = λ i.
+      count_same (waiting_by (line ∷ lines)) (waiting_by lines) m (λ w h. waits w) i
+      + count_same (released_by (line ∷ lines)) (released_by lines) m (λ w h. gone w) i
+
   pub enters_all : (lines : List Line) → Book lines → done_enters lines ≡ waiting_count lines m + released_count lines m
   unfolding done_enters entered_by released_by
   enters_all [] kept = omega (arith, none_picked (waiting_by []) m (λ v. refl), none_picked (released_by []) m (λ v. refl))
@@ -192,25 +196,10 @@ module _ (side : ℕ) (c : Wiring) (Δ : Label) (ls : List Label) (few : c.input
         count_same (released_by (done_line (enter_call v bit) ∷ lines)) (released_by lines) m (λ w h. refl),
       )
   enters_all (done_line (change_call v bit) ∷ lines) kept =
-      omega (
-        arith,
-        enters_all lines (below _ lines kept),
-        count_same (waiting_by (done_line (change_call v bit) ∷ lines)) (waiting_by lines) m (λ w h. refl),
-        count_same (released_by (done_line (change_call v bit) ∷ lines)) (released_by lines) m (λ w h. refl),
-      )
+      omega (arith, enters_all lines (below _ lines kept), counts_stay (done_line (change_call v bit)) lines (λ w. refl) (λ w. refl))
   enters_all (done_line (release_call v) ∷ lines) kept =
       omega (arith, enters_all lines (below _ lines kept), waiting_less lines v (let_go lines v kept), released_more lines v (let_go lines v kept))
   enters_all (done_line close_call ∷ lines) kept =
-      omega (
-        arith,
-        enters_all lines (below _ lines kept),
-        count_same (waiting_by (done_line close_call ∷ lines)) (waiting_by lines) m (λ w h. refl),
-        count_same (released_by (done_line close_call ∷ lines)) (released_by lines) m (λ w h. refl),
-      )
+      omega (arith, enters_all lines (below _ lines kept), counts_stay (done_line close_call) lines (λ w. refl) (λ w. refl))
   enters_all (refused_line call ∷ lines) kept =
-      omega (
-        arith,
-        enters_all lines (below _ lines kept),
-        count_same (waiting_by (refused_line call ∷ lines)) (waiting_by lines) m (λ w h. refl),
-        count_same (released_by (refused_line call ∷ lines)) (released_by lines) m (λ w h. refl),
-      )
+      omega (arith, enters_all lines (below _ lines kept), counts_stay (refused_line call) lines (λ w. refl) (λ w. refl))
