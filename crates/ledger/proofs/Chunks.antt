@@ -2,7 +2,9 @@
 use Rattle.std.proofs.Common.{◌≡◌, ℕ, zero, suc, ◌+◌, ◌*◌, ◌<◌, List, [], ◌∷◌, ◌++◌, length, get_or, take, drop, set, ap, ◌∙◌, mul-zero, zero-add, mul-suc, arith}
 use lib.Seq.{take-append-add, drop-append-add}
 use Rattle.std.specs.List.{flat_map}
-use Rattle.std.proofs.lemmas.List.{append_assoc, get_or_append_left, get_or-append-add, drop_at}
+use Rattle.std.proofs.lemmas.List.{append_assoc, length-take-le, drop_at}
+use Rattle.std.proofs.lemmas.List.Concat.{get_or-flat_map}
+use Rattle.slices.proofs.Widths.{length-joined}
 
 module _ {X : Type 0} (f : X → List ℕ) (k : ℕ) (wide : (x : X) → length (f x) ≡ k) where
   -- the place of the next piece, by the width of this one
@@ -12,12 +14,10 @@ module _ {X : Type 0} (f : X → List ℕ) (k : ℕ) (wide : (x : X) → length 
   -- What stands in piece w.
   pub chunk_at : (xs : List X) (w i : ℕ) (d : ℕ) (e : X) → w < length xs → i < k
       → get_or (flat_map f xs) (k * w + i) d ≡ get_or (f (get_or xs w e)) i d
-  chunk_at [] w i d e below inside = absurd (omega arith)
-  chunk_at (x ∷ xs) zero i d e below inside =
-      let h : i < length (f x) = omega (arith, wide x) in
-      rw (mul-zero k, zero-add) (get_or_append_left (f x) (flat_map f xs) d i h)
-  chunk_at (x ∷ xs) (suc w) i d e below inside =
-      rw (next x w i) (get_or-append-add (f x) (flat_map f xs) (k * w + i) d ∙ chunk_at xs w i d e (omega arith) inside)
+  chunk_at xs w i d e below inside =
+      let start : length (flat_map f (take w xs)) ≡ k * w = length-joined f k wide (take w xs) ∙ ap (λ n. k * n) (length-take-le w xs (omega arith)) in
+      let room : i < length (f (get_or xs w e)) = omega (arith, wide (get_or xs w e)) in
+      rw (← start) (get_or-flat_map f xs w i e d below room)
 
   -- Piece w written anew.
   pub chunk_put : (xs : List X) (w : ℕ) (y : X) → w < length xs

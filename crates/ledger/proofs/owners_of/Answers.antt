@@ -1,4 +1,4 @@
-use Rattle.std.proofs.Common.{refl, arith, rules}
+use Rattle.std.proofs.Common.{arith, rules}
 use Rattle.std.proofs.lemmas.List.FromFn.{fill_by_all}
 use Rattle.wires.specs.Read.{wiring_of}
 use Rattle.ledger.specs.Ledger.{owners_of, owner_of}
