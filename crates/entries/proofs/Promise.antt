@@ -1,11 +1,10 @@
 -- The laws of a kept book put together: one label for each wire.
-use Rattle.std.proofs.Common.{◌≡◌, ℕ, ◌+◌, ◌-◌, ◌^◌, ◌<◌, ◌≤◌, Bool, true, false, cond, not, ◌&&◌, ◌⊎◌, List, ◌++◌, length, replicate, IfOk, Some, None, Ok, Err, Result, sym, refl, ap, ◌∙◌, inl, inr, arith}
+use Rattle.std.proofs.Common.{◌≡◌, ℕ, ◌+◌, ◌-◌, ◌^◌, ◌<◌, ◌≤◌, Bool, true, false, cond, not, ◌&&◌, ◌⊎◌, List, ◌++◌, length, replicate, Some, None, sym, refl, ap, ◌∙◌, inl, inr, arith}
 use lib.Bits.{xor_lt}
 use Rattle.std.proofs.lemmas.List.FromFn.{length-map-range_with_len}
 use Rattle.std.proofs.lemmas.List.{get_or_past}
 use Rattle.std.proofs.lemmas.Bool.{cases_lt}
 use Rattle.label.specs.Labels.{Label}
-use Rattle.refusal.specs.declared.Refusal.{Refusal}
 use Rattle.wires.specs.Wires.{Wiring, side_at, wires_where}
 use Rattle.ledger.specs.declared.Entry.TheVariants.{Empty}
 use Rattle.ledger.specs.declared.Ledger.{Ledger}
@@ -16,7 +15,6 @@ use Rattle.ledger.specs.Sheet.{sheet_of, mark_byte, mark_on, label_on, sheet_inp
 use Rattle.ledger.proofs.Points.{point_at}
 use Rattle.ledger.proofs.Sheets.{sheet_inputs-sheet_of, mark_on-sheet_of, label_on-shown, label_on-blank}
 use Rattle.ledger.proofs.Stores.{stored_label-store_of}
-use Rattle.opening.specs.declared.sitting.OpenSitting.{OpenSitting}
 use Rattle.entries.specs.declared.ClosedSitting.{ClosedSitting}
 use Rattle.entries.specs.Steps.{State}
 use Rattle.entries.specs.Book.{Line, opened_state, state_after, closed_by, Kept, entered_by, released_by, waiting_by, last_bit_by, waiting_count, released_count, entry_by, false_label, bit_label, shown_by, left_by, labels_left}

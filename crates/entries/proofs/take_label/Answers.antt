@@ -1,4 +1,4 @@
-use Rattle.std.proofs.Common.{◌+◌, ◌*◌, refl, arith}
+use Rattle.std.proofs.Common.{◌+◌, ◌*◌, arith}
 use Rattle.entries.proofs.Writes.{put_zeros}
 use Rattle.entries.proofs.take_label.Goals as goal
 
