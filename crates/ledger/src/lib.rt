@@ -53,6 +53,7 @@ fn decide(entry: &mut Entry, act: Act, wire: u32) -> Result<bool, Refusal>
 }
 
 // The own side, the number of input wires, and for each of 512 wires the side that it belongs to and its entry.
+// No model: contracts speak of each of the four, so its value would be the same record again.
 #[derive(Drop)]
 pub struct Ledger {
     side: u8,
