@@ -1,2 +1,3 @@
-mod Fronts
+mod Calls
+mod Words
 pub mod Examples

@@ -1,5 +1,5 @@
 -- The ChaCha20 block function: RFC 8439, 2.3.
-use Rattle.std.specs.Prelude.{ℕ, List, [], ◌∷◌}
+use Rattle.std.specs.Prelude.{ℕ, List, [], ◌∷◌, slice_index}
 use Rattle.chacha.specs.Words.{plus}
 use Rattle.chacha.specs.Bytes.{word_at, serialised}
 use Rattle.chacha.specs.Rounds.{twenty_rounds}
@@ -12,6 +12,14 @@ initial_state key counter nonce =
     ∷ word_at key 0 ∷ word_at key 4 ∷ word_at key 8 ∷ word_at key 12
     ∷ word_at key 16 ∷ word_at key 20 ∷ word_at key 24 ∷ word_at key 28
     ∷ counter ∷ word_at nonce 0 ∷ word_at nonce 4 ∷ word_at nonce 8 ∷ []
+
+-- The same, of the words of the key and of the nonce.
+abbrev pub state_of : List ℕ → ℕ → List ℕ → List ℕ
+state_of key counter nonce =
+    0x61707865 ∷ 0x3320646e ∷ 0x79622d32 ∷ 0x6b206574
+    ∷ slice_index key 0 ∷ slice_index key 1 ∷ slice_index key 2 ∷ slice_index key 3
+    ∷ slice_index key 4 ∷ slice_index key 5 ∷ slice_index key 6 ∷ slice_index key 7
+    ∷ counter ∷ slice_index nonce 0 ∷ slice_index nonce 1 ∷ slice_index nonce 2 ∷ []
 
 -- Two states added word by word.
 abbrev pub added : List ℕ → List ℕ → List ℕ

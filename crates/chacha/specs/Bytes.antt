@@ -1,5 +1,6 @@
 -- Words in bytes, little-endian, as RFC 8439 reads and writes them.
-use Rattle.std.specs.Prelude.{ℕ, List, [], ◌∷◌, ◌++◌, take, drop}
+use Rattle.std.specs.Prelude.{ℕ, ◌*◌, List, [], ◌∷◌, ◌++◌, map, take, drop}
+use Rattle.std.specs.List.{range_with_len}
 use Rattle.slices.specs.Little.{little, bytes_of}
 
 -- The four bytes at p.
@@ -9,6 +10,10 @@ four_at s p = take 4 (drop p s)
 -- The word of the four bytes at p.
 abbrev pub word_at : List ℕ → ℕ → ℕ
 word_at s p = little (four_at s p)
+
+-- The first n words of some bytes, which RFC 8439 reads one after another.
+abbrev pub words_in : ℕ → List ℕ → List ℕ
+words_in n s = map (λ i. word_at s (4 * i)) (range_with_len 0 n)
 
 -- Words as bytes, four bytes each.
 abbrev pub serialised : List ℕ → List ℕ

@@ -29,5 +29,4 @@ answer_of material label tweak = read_block (block_of (label_key material label)
 
 -- The key material that a prepared hash stands for.
 unfoldable pub material_of : ChaChaHash → List ℕ
-material_of h =
-    serialised (h.key.0 ∷ h.key.1 ∷ h.key.2 ∷ h.key.3 ∷ h.nonce.0 ∷ h.nonce.1 ∷ h.nonce.2 ∷ [])
+material_of h = serialised h.words

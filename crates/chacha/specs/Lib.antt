@@ -1,6 +1,5 @@
 pub mod Words
 pub mod Bytes
 pub mod Rounds
-pub mod State
 pub mod Block
 pub mod Hash

@@ -1,22 +1,13 @@
 // The rounds of ChaCha20 on a state of 16 words, RFC 8439, 2.1 to 2.3.
 
-ghost use Rattle.std.specs.Prelude.{◌≡◌};
-ghost use Rattle.chacha.specs.Rounds.{quarter_round, column_round, diagonal_round, twenty_rounds};
-ghost use Rattle.chacha.specs.State.{words};
+ghost use Rattle.std.specs.Prelude.{◌≡◌, ◌<◌};
+ghost use Rattle.chacha.specs.Rounds.{quarter_round, quarter_round_at, column_round, diagonal_round, twenty_rounds};
 
-// A row of the four by four matrix of words.
-pub(crate) type Row = (u32, u32, u32, u32);
-
-// The state: its 16 words as four rows of four.
-#[derive(Clone, Copy)]
-pub(crate) struct State {
-    pub(crate) a: Row,
-    pub(crate) b: Row,
-    pub(crate) c: Row,
-    pub(crate) d: Row,
-}
+// The state: a four by four matrix of words, row after row.
+pub(crate) type State = [u32; 16];
 
 // The quarter round, RFC 8439, 2.1.
+#[tactic(auto, unfolding(crate::specs::Words::roll, crate::specs::Rounds::quarter_round))]
 pub fn quarter_round(a: u32, b: u32, c: u32, d: u32) -> (u32, u32, u32, u32)
     ensures { result ≡ quarter_round a b c d }
 {
@@ -31,48 +22,54 @@ pub fn quarter_round(a: u32, b: u32, c: u32, d: u32) -> (u32, u32, u32, u32)
     (a2, b2, c2, d2)
 }
 
-// A quarter round on each column.
-fn column_round(s: State) -> State
-    ensures { words result ≡ column_round (words s) }
+// The quarter round on the words of a state at four indices, RFC 8439, 2.2.
+#[inline(always)]
+#[tactic(auto, unfolding(crate::specs::Rounds::quarter_round_at))]
+fn quarter_round_at(s: &mut State, x: usize, y: usize, z: usize, w: usize)
+    requires { (x < 16) × (y < 16) × (z < 16) × (w < 16) }
+    ensures { s.new ≡ quarter_round_at x y z w s.old }
 {
-    let (a0, b0, c0, d0) = quarter_round(s.a.0, s.b.0, s.c.0, s.d.0);
-    let (a1, b1, c1, d1) = quarter_round(s.a.1, s.b.1, s.c.1, s.d.1);
-    let (a2, b2, c2, d2) = quarter_round(s.a.2, s.b.2, s.c.2, s.d.2);
-    let (a3, b3, c3, d3) = quarter_round(s.a.3, s.b.3, s.c.3, s.d.3);
-    State {
-        a: (a0, a1, a2, a3),
-        b: (b0, b1, b2, b3),
-        c: (c0, c1, c2, c3),
-        d: (d0, d1, d2, d3),
-    }
+    let (a, b, c, d) = quarter_round(s[x], s[y], s[z], s[w]);
+    s[x] = a;
+    s[y] = b;
+    s[z] = c;
+    s[w] = d;
+}
+
+// A quarter round on each column.
+#[tactic(auto, unfolding(crate::specs::Rounds::column_round))]
+fn column_round(s: &mut State)
+    ensures { s.new ≡ column_round s.old }
+{
+    quarter_round_at(s, 0, 4, 8, 12);
+    quarter_round_at(s, 1, 5, 9, 13);
+    quarter_round_at(s, 2, 6, 10, 14);
+    quarter_round_at(s, 3, 7, 11, 15);
 }
 
 // A quarter round on each diagonal.
-fn diagonal_round(s: State) -> State
-    ensures { words result ≡ diagonal_round (words s) }
+#[tactic(auto, unfolding(crate::specs::Rounds::diagonal_round))]
+fn diagonal_round(s: &mut State)
+    ensures { s.new ≡ diagonal_round s.old }
 {
-    let (a0, b1, c2, d3) = quarter_round(s.a.0, s.b.1, s.c.2, s.d.3);
-    let (a1, b2, c3, d0) = quarter_round(s.a.1, s.b.2, s.c.3, s.d.0);
-    let (a2, b3, c0, d1) = quarter_round(s.a.2, s.b.3, s.c.0, s.d.1);
-    let (a3, b0, c1, d2) = quarter_round(s.a.3, s.b.0, s.c.1, s.d.2);
-    State {
-        a: (a0, a1, a2, a3),
-        b: (b0, b1, b2, b3),
-        c: (c0, c1, c2, c3),
-        d: (d0, d1, d2, d3),
-    }
+    quarter_round_at(s, 0, 5, 10, 15);
+    quarter_round_at(s, 1, 6, 11, 12);
+    quarter_round_at(s, 2, 7, 8, 13);
+    quarter_round_at(s, 3, 4, 9, 14);
 }
 
 // How many double rounds there are: 20 rounds.
 const DOUBLE_ROUNDS: u32 = 10;
 
 // The 20 rounds, RFC 8439, 2.3: a column and a diagonal round, ten times.
+#[tactic(auto, unfolding(crate::specs::Rounds::double_rounds))]
 pub(crate) fn twenty_rounds(start: State) -> State
-    ensures { words result ≡ twenty_rounds (words start) }
+    ensures { result ≡ twenty_rounds start }
 {
     let mut s = start;
     for _i in 0..DOUBLE_ROUNDS {
-        s = diagonal_round(column_round(s));
+        column_round(&mut s);
+        diagonal_round(&mut s);
     }
     s
 }

@@ -1,11 +1,11 @@
 -- The block's four steps, one after another.
-use Rattle.std.proofs.Common.{ap, ◌∙◌}
+use Rattle.std.proofs.Common.{ap, ◌∙◌, ap₂}
 use Rattle.chacha.specs.Bytes.{serialised}
-use Rattle.chacha.specs.Block.{final_state, block_of}
+use Rattle.chacha.specs.Block.{initial_state, state_of, final_state, block_of}
 use Rattle.chacha.proofs.blocks.block.Goals as goal
 
 pub returns : goal.returns
-unfolding block_of
+unfolding initial_state block_of
 returns c =
-    c.serialise.ensures
-    ∙ ap serialised (c.words_of.ensures ∙ c.final_state.ensures ∙ ap final_state c.initial_state.ensures)
+    let start = ap₂ (λ k n. state_of k c.args.counter n) c.words_in.ensures c.words_in-2.ensures in
+    c.serialise.ensures ∙ ap serialised (c.final_state.ensures ∙ ap final_state (c.state_of.ensures ∙ start))

@@ -1,14 +1,16 @@
--- The 20 rounds give a state of four rows, and the rows are added.
-use Rattle.chacha.specs.Block.{final_state}
+-- The 20 rounds give a state, and each call adds two words.
+use Rattle.std.proofs.Common.{◌≡◌, ℕ, get_or, sym, refl, ap, ◌∙◌, ap₂, arith, rules}
+use Rattle.std.proofs.lemmas.List.FromFn.{fill_by_all}
+use Rattle.chacha.specs.Words.{plus}
+use Rattle.chacha.specs.Block.{added, final_state}
+use Rattle.chacha.proofs.Calls.{made_by}
 use Rattle.chacha.proofs.blocks.final_state.Goals as goal
 
 pub returns : goal.returns
 unfolding final_state
 returns c =
-    simp (
-      c.added_rows.ensures,
-      c.added_rows-2.ensures,
-      c.added_rows-3.ensures,
-      c.added_rows-4.ensures,
-      ← c.twenty_rounds-end.ensures,
-    )
+    let start = c.args.start in
+    let end = c.twenty_rounds-end.result in
+    made_by _ _ (λ i. plus (get_or end i 0) (get_or start i 0)) 16 (λ i y q below k. search rules) (λ i y q below k. search rules) c.from_fn.result c.from_fn.ensures.items
+    ∙ sym (ap₂ added (fill_by_all (λ i. get_or end i 0) end 16 0 (omega arith) (λ i h. refl)) (fill_by_all (λ i. get_or start i 0) start 16 0 (omega arith) (λ i h. refl)))
+    ∙ ap (λ l. added l start) c.twenty_rounds-end.ensures

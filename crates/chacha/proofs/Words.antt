@@ -1,0 +1,53 @@
+-- Words in bytes: the four bytes at a place, and the bytes of words that were read.
+use Rattle.std.proofs.Common.{◌≡◌, ℕ, zero, suc, ◌+◌, ◌*◌, ◌<◌, ◌≤◌, List, [], ◌∷◌, ◌++◌, map, length, get_or, take, drop, sym, ap, ◌∙◌, ap₂, add-one, arith, drop-cons, drop-drop, take_all}
+use Rattle.std.proofs.Math.Seq.{take-add}
+use Rattle.std.specs.Int.{from_le_bytes, w32}
+use Rattle.std.specs.List.{range_with_len}
+use Rattle.slices.specs.Little.{little, bytes_of}
+use Rattle.slices.proofs.LittleLaws.{bytes_of-little}
+use Rattle.chacha.specs.Bytes.{four_at, word_at, words_in, serialised}
+
+-- a part that begins with the byte at i
+part_more : (l : List ℕ) (n i j : ℕ) → j ≡ i + 1 → i < length l → take (suc n) (drop i l) ≡ get_or l i 0 ∷ take n (drop j l)
+part_more l n i j e h = rw (drop-cons l i 0 h, e, add-one)
+
+-- the four bytes at p, one by one
+pub four_at-bytes :
+    (l : List ℕ) (p : ℕ) → p + 4 ≤ length l
+    → four_at l p ≡ get_or l p 0 ∷ get_or l (p + 1) 0 ∷ get_or l (p + 2) 0 ∷ get_or l (p + 3) 0 ∷ []
+unfolding four_at
+four_at-bytes l p h =
+    part_more l 3 p (p + 1) (omega arith) (omega arith)
+    ∙ ap (λ r. get_or l p 0 ∷ r) (part_more l 2 (p + 1) (p + 2) (omega arith) (omega arith))
+    ∙ ap (λ r. get_or l p 0 ∷ get_or l (p + 1) 0 ∷ r) (part_more l 1 (p + 2) (p + 3) (omega arith) (omega arith))
+    ∙ ap (λ r. get_or l p 0 ∷ get_or l (p + 1) 0 ∷ get_or l (p + 2) 0 ∷ r)
+    (part_more l 0 (p + 3) (p + 4) (omega arith) (omega arith))
+
+-- the word of those bytes, by the library's reading
+pub word_is : (l : List ℕ) (p : ℕ) → p + 4 ≤ length l
+    → from_le_bytes w32 (get_or l p 0 ∷ get_or l (p + 1) 0 ∷ get_or l (p + 2) 0 ∷ get_or l (p + 3) 0 ∷ []) ≡ word_at l p
+unfolding little
+word_is l p h = rw (four_at-bytes l p h) (omega arith)
+
+module _ (s : List ℕ) (below : (i : ℕ) → get_or s i 0 < 256) where
+  -- the bytes of the word at p are those that it was read from
+  word_back : (p : ℕ) → p + 4 ≤ length s → bytes_of 4 (word_at s p) ≡ four_at s p
+  word_back p h =
+      rw (four_at-bytes s p h)
+      (bytes_of-little _ (below p, (below (p + 1), (below (p + 2), (below (p + 3), tt)))))
+
+  -- and so are those of n words, from the word at 4·a on
+  pub words_back : (n a : ℕ) → 4 * a + 4 * n ≤ length s
+      → serialised (map (λ i. word_at s (4 * i)) (range_with_len a n)) ≡ take (4 * n) (drop (4 * a) s)
+  unfolding four_at
+  words_back zero a h = search arith
+  words_back (suc n) a h =
+      ap₂ (λ x y. x ++ y) (word_back (4 * a) (omega arith)) (words_back n (a + 1) (omega arith))
+      ∙ ap (λ k. take 4 (drop (4 * a) s) ++ take (4 * n) (drop k s)) (omega arith)
+      ∙ ap (λ l. take 4 (drop (4 * a) s) ++ take (4 * n) l) (sym (drop-drop 4 (4 * a) s))
+      ∙ sym (take-add 4 (4 * n) (drop (4 * a) s))
+      ∙ ap (λ k. take k (drop (4 * a) s)) (omega arith)
+
+-- 28 bytes are those of their seven words
+pub material_back : (s : List ℕ) → length s ≡ 28 → ((i : ℕ) → get_or s i 0 < 256) → serialised (words_in 7 s) ≡ s
+material_back s long below = words_back s below 7 0 (omega arith) ∙ take_all 28 s (omega arith)
