@@ -50,7 +50,6 @@ fn serialise(state: State) -> [u8; 64]
 }
 
 // The ChaCha20 block function, RFC 8439, 2.3.1.
-#[tactic(auto, unfolding(crate::specs::Block::initial_state, crate::specs::Block::block_of))]
 pub fn block(key: &[u8; 32], counter: u32, nonce: &[u8; 12]) -> [u8; 64]
     ensures { result ≡ block_of key.now counter nonce.now }
 {
