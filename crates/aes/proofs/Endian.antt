@@ -1,8 +1,10 @@
 -- Little-endian numbers: the bytes of a number make it up again, and the number of sums of bytes is the sum of the numbers.
-use Rattle.std.proofs.Common.{◌≡◌, ℕ, zero, suc, ◌+◌, ◌*◌, ◌/◌, ◌%◌, ◌^◌, ◌<◌, List, [], ◌∷◌, length, get_or, sym, refl, ap, ◌∙◌, ap₂, mod-lt, pow-suc, arith, lit<}
+use Rattle.std.proofs.Common.{◌≡◌, ℕ, zero, suc, ◌+◌, ◌*◌, ◌/◌, ◌%◌, ◌^◌, ◌<◌, ◌≤◌, List, [], ◌∷◌, ◌++◌, length, get_or, take, drop, sym, refl, ap, ◌∙◌, ap₂, add-zero, mod-lt, pow-suc, arith, lit<, length-take, length-drop, get_or-take, get_or-drop}
 use lib.Bits.{bit_xor, xor_block}
 use lib.Lanes.{zip2, number_l, digits_l, Each1}
 use Rattle.std.proofs.lemmas.List.FromFn.{fill_by_all}
+use Rattle.slices.specs.Little.{word_at}
+use Rattle.label.specs.Labels.{label_bytes}
 
 -- the number of the sums of bytes
 pub number_xor : (xs ys : List ℕ) → length xs ≡ length ys → Each1 (λ x. x < 256) xs → Each1 (λ y. y < 256) ys
@@ -49,3 +51,25 @@ pub number_is : (xs : List ℕ) → length xs ≡ 8 → number_l 256 xs
     ≡ get_or xs 0 0 + get_or xs 1 0 * 256 + get_or xs 2 0 * 65536 + get_or xs 3 0 * 16777216 + get_or xs 4 0 * 4294967296
     + get_or xs 5 0 * 1099511627776 + get_or xs 6 0 * 281474976710656 + get_or xs 7 0 * 72057594037927936
 number_is xs long = ap (number_l 256) (fill_by_all (λ k. get_or xs k 0) xs 8 0 long (λ k h. refl)) ∙ (omega arith)
+
+-- the number of the eight bytes at p, as it is read in one go
+pub word_is : (xs : List ℕ) (p : ℕ) → p + 8 ≤ length xs → word_at xs p ≡ number_l 256 (take 8 (drop p xs))
+word_is xs p h =
+    let ys : List ℕ = take 8 (drop p xs) in
+    let long : length ys ≡ 8 = simp (length-take, length-drop) (omega arith) in
+    let at : (k : ℕ) → k < 8 → get_or ys k 0 ≡ get_or xs (p + k) 0 = λ k l. get_or-take 8 (drop p xs) k 0 l ∙ get_or-drop p xs k 0 in
+    let b0 : get_or ys 0 0 ≡ get_or xs p 0 = at 0 (lit< tt) ∙ ap (λ (k : ℕ). get_or xs k 0) (add-zero p) in
+    let b1 = at 1 (lit< tt) in
+    let b2 = at 2 (lit< tt) in
+    let b3 = at 3 (lit< tt) in
+    let b4 = at 4 (lit< tt) in
+    let b5 = at 5 (lit< tt) in
+    let b6 = at 6 (lit< tt) in
+    let b7 = at 7 (lit< tt) in
+    sym
+    (number_is ys long
+    ∙ (λ i. b0 i + b1 i * 256 + b2 i * 65536 + b3 i * 16777216 + b4 i * 4294967296 + b5 i * 1099511627776 + b6 i * 281474976710656 + b7 i * 72057594037927936))
+
+-- and the bytes of two numbers, as they are written in one go
+pub halves_is : (x y : ℕ) → label_bytes (x, y) ≡ digits_l 256 8 x ++ digits_l 256 8 y
+halves_is x y = sym (ap₂ (λ (l m : List ℕ). l ++ m) (digits-is x) (digits-is y))

@@ -1,8 +1,10 @@
 -- A round of FIPS 197 in its four columns: substituting and shifting brings column j the bytes of row 0 of column j, row 1 of column
 -- j + 1, row 2 of column j + 2 and row 3 of column j + 3.
-use Rattle.std.proofs.Common.{◌≡◌, ℕ, ◌+◌, ◌*◌, List, [], ◌∷◌, get_or}
+use Rattle.std.proofs.Common.{◌≡◌, ℕ, ◌+◌, ◌*◌, List, [], ◌∷◌, get_or, ap, ◌∙◌}
+use lib.Bits.{bit_xor}
 use Rattle.aes.specs.Fips197.{sub_bytes, shift_rows, mix_columns, bytes_of, round_key, add_round_key}
 use Rattle.aes.specs.Columns.{add_columns, column_at, mixed_column, last_column, state_of}
+use Rattle.aes.proofs.Words.{bytes_xor}
 
 -- the four bytes of each of four columns
 abbrev joined : List ℕ → List ℕ → List ℕ → List ℕ → List ℕ
@@ -22,6 +24,11 @@ module _ (a b c d : ℕ) (w : List ℕ) (k p q r s : ℕ) where
       → state_of (p ∷ q ∷ r ∷ s ∷ []) ≡ add_round_key (shift_rows (sub_bytes (state_of (a ∷ b ∷ c ∷ d ∷ [])))) (round_key w k)
   unfolding add_round_key shift_rows sub_bytes round_key
   shifted_state hp hq hr hs = λ i. joined (hp i) (hq i) (hr i) (hs i)
+
+-- a column of the block with the key's word added
+pub first_column : (block : List ℕ) (i p key : ℕ) → bytes_of p ≡ column_at block i
+    → bytes_of (bit_xor p key) ≡ add_columns (column_at block i) (bytes_of key)
+first_column block i p key e = bytes_xor p key ∙ ap (λ (l : List ℕ). add_columns l (bytes_of key)) e
 
 -- the first round adds its key to the block's columns
 pub first_state : (block w : List ℕ) (p q r s : ℕ)

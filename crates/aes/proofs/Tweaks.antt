@@ -15,29 +15,27 @@ twice_is a h =
     ∙ reduced_is 64 27 (lit< tt) (a * 2) (omega arith)
     ∙ ap (λ (q : ℕ). bit_xor ((a * 2) % 2 ^ 64) (q * 27)) (omega arith))
 
--- the product of a with the tweak's i highest coefficients
+-- the product of a with the tweak's coefficients from i on
 abbrev pub high_product : ℕ → ℕ → ℕ → ℕ
-high_product a tweak i = horner 64 (2 ^ 64 + 27) i a (tweak / 2 ^ (32 - i))
+high_product a tweak i = horner 64 (2 ^ 64 + 27) (32 - i) a (tweak / 2 ^ i)
 
 -- with none of them, with one more, and with all of them
-pub high_none : (a tweak : ℕ) → 0 ≡ high_product a tweak 0
+pub high_none : (a tweak : ℕ) → 0 ≡ high_product a tweak 32
 unfolding horner
 high_none a tweak = refl
 
-pub high_more : (a tweak i sum : ℕ) → a < 2 ^ 64 → i < 32 → sum ≡ high_product a tweak i
-    → bit_xor (tweak / 2 ^ (31 - i) % 2 * a) (times64 sum 2) ≡ high_product a tweak (i + 1)
+pub high_more : (a tweak i sum : ℕ) → a < 2 ^ 64 → i < 32 → sum ≡ high_product a tweak (i + 1)
+    → bit_xor (tweak / 2 ^ i % 2 * a) (times64 sum 2) ≡ high_product a tweak i
 unfolding horner times64
 high_more a tweak i sum ha below e =
-    let fits : sum < 2 ^ 64 = rw e (horner_lt 64 27 (lit< tt) i a (tweak / 2 ^ (32 - i)) ha) in
-    ap (bit_xor (tweak / 2 ^ (31 - i) % 2 * a))
+    let more : suc (32 - (i + 1)) ≡ 32 - i = omega arith in
+    let fits : sum < 2 ^ 64 = rw e (horner_lt 64 27 (lit< tt) (32 - (i + 1)) a (tweak / 2 ^ (i + 1)) ha) in
+    ap (bit_xor (tweak / 2 ^ i % 2 * a))
     (times_two 64 27 (lit< tt) sum fits (lit≤ tt)
-    ∙ ap (doubled 64 (2 ^ 64 + 27))
-    (e ∙ ap (horner 64 (2 ^ 64 + 27) i a)
-    (ap (λ (k : ℕ). tweak / 2 ^ k) (omega arith) ∙ sym (shr-shr tweak (31 - i) 1))))
-    ∙ ap (λ (k : ℕ). horner 64 (2 ^ 64 + 27) (suc i) a (tweak / 2 ^ k)) (omega arith)
-    ∙ ap (λ (n : ℕ). horner 64 (2 ^ 64 + 27) n a (tweak / 2 ^ (32 - (i + 1)))) (sym (add-one i))
+    ∙ ap (doubled 64 (2 ^ 64 + 27)) (e ∙ ap (horner 64 (2 ^ 64 + 27) (32 - (i + 1)) a) (sym (shr-shr tweak i 1))))
+    ∙ ap (λ (n : ℕ). horner 64 (2 ^ 64 + 27) n a (tweak / 2 ^ i)) more
 
-pub high_all : (a tweak : ℕ) → a < 2 ^ 64 → tweak < 2 ^ 32 → high_product a tweak 32 ≡ times64 a tweak
+pub high_all : (a tweak : ℕ) → a < 2 ^ 64 → tweak < 2 ^ 32 → high_product a tweak 0 ≡ times64 a tweak
 unfolding times64
 high_all a tweak ha ht =
     ap (horner 64 (2 ^ 64 + 27) 32 a) (div-one tweak)

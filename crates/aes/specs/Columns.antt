@@ -1,7 +1,7 @@
 -- A state in four words, one for each column: what the code's rounds work on.
-use Rattle.std.specs.Prelude.{ℕ, ◌+◌, List, [], ◌∷◌, ◌++◌, bit_xor, slice_index}
+use Rattle.std.specs.Prelude.{ℕ, zero, suc, ◌+◌, List, [], ◌∷◌, ◌++◌, bit_xor, slice_index}
 use Rattle.std.specs.Simd.Lanes.{zip2}
-use Rattle.aes.specs.Fips197.{s_box, mix_column, bytes_of}
+use Rattle.aes.specs.Fips197.{◌•◌, s_box, mix_column, bytes_of, word_of}
 
 -- byte r of a word
 abbrev pub byte_of : ℕ → ℕ → ℕ
@@ -14,6 +14,13 @@ column_at block i = slice_index block i ∷ slice_index block (i + 1) ∷ slice_
 -- the sum of two columns of bytes
 abbrev pub add_columns : List ℕ → List ℕ → List ℕ
 add_columns x y = zip2 bit_xor x y
+
+-- what the byte x in row r, substituted, adds to a mixed column
+abbrev pub mixed_row : ℕ → ℕ → ℕ
+mixed_row zero x = word_of (2 • s_box x) (s_box x) (s_box x) (3 • s_box x)
+mixed_row (suc zero) x = word_of (3 • s_box x) (2 • s_box x) (s_box x) (s_box x)
+mixed_row (suc (suc zero)) x = word_of (s_box x) (3 • s_box x) (2 • s_box x) (s_box x)
+mixed_row (suc (suc (suc r))) x = word_of (s_box x) (s_box x) (3 • s_box x) (2 • s_box x)
 
 -- the column that the bytes of a in row 0, b in row 1, c in row 2 and d in row 3 come to: substituted, mixed, and with the key's word added
 abbrev pub mixed_column : ℕ → ℕ → ℕ → ℕ → ℕ → List ℕ

@@ -14,9 +14,9 @@ pub(crate) fn twice(a: u64) -> u64
 pub(crate) fn times_tweak(a: u64, tweak: u32) -> u64
     ensures { result ≡ times64 a tweak }
 {
-    let mut sum: u64 = 0;
-    for i in 0..32u32 {
-        let coefficient = ((tweak >> (31 - i)) % 2) as u64;
+    let mut sum = 0;
+    for i in (0..32u32).rev() {
+        let coefficient = u64::from((tweak >> i) % 2);
         sum = (coefficient * a) ^ twice(sum);
     }
     sum

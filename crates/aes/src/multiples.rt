@@ -20,6 +20,7 @@ fn multiples_of(a: u64) -> [u64; 128]
     ensures { result ≡ multiples a }
 {
     let mut entries = [0; 128];
+    // not from_fn: its closure does not know that k is below 128, which the cast needs
     for k in 0..128usize {
         entries[k] = times_tweak(a, ((k % 16) << (4 * (k / 16))) as u32);
     }
@@ -39,10 +40,10 @@ impl Multiples {
     pub(crate) fn times(&self, tweak: u32) -> u64
         ensures { result ≡ times64 self.now.factor tweak }
     {
-        let mut sum: u64 = 0;
-        for j in 0..8usize {
+        let mut sum = 0;
+        for j in 0..8 {
             let part = (tweak as usize >> (4 * j)) % 16;
-            sum = self.entries[16 * j + part] ^ sum;
+            sum ^= self.entries[16 * j + part];
         }
         sum
     }

@@ -3,18 +3,19 @@
 
 ghost use Rattle.std.specs.Prelude.{◌≡◌, ◌<◌};
 ghost use Rattle.aes.specs.Fips197.{sub_bytes, shift_rows, mix_columns, bytes_of, round_key, add_round_key, cipher};
-ghost use Rattle.aes.specs.Columns.{add_columns, column_at, mixed_column, last_column, state_of};
+ghost use Rattle.aes.specs.Columns.{mixed_column, last_column, state_of};
 
-use crate::tables::{mixed_row0, mixed_row1, mixed_row2, mixed_row3, sub_byte};
+use crate::schedule::column_at;
+use crate::tables::{mixed_row, sub_byte};
 
 // The column that the rows' bytes of a, b, c and d come to: substituted, mixed, and with the key's word added.
 fn mixed_column(a: u32, b: u32, c: u32, d: u32, key: u32) -> u32
     ensures { bytes_of result ≡ mixed_column a b c d key }
 {
-    mixed_row0((a >> 24) as u8)
-        ^ mixed_row1(((b >> 16) % 256) as u8)
-        ^ mixed_row2(((c >> 8) % 256) as u8)
-        ^ mixed_row3((d % 256) as u8)
+    mixed_row::<0>(a.to_be_bytes()[0])
+        ^ mixed_row::<1>(b.to_be_bytes()[1])
+        ^ mixed_row::<2>(c.to_be_bytes()[2])
+        ^ mixed_row::<3>(d.to_be_bytes()[3])
         ^ key
 }
 
@@ -22,21 +23,12 @@ fn mixed_column(a: u32, b: u32, c: u32, d: u32, key: u32) -> u32
 fn last_column(a: u32, b: u32, c: u32, d: u32, key: u32) -> u32
     ensures { bytes_of result ≡ last_column a b c d key }
 {
-    let bytes = [
-        sub_byte((a >> 24) as u8),
-        sub_byte(((b >> 16) % 256) as u8),
-        sub_byte(((c >> 8) % 256) as u8),
-        sub_byte((d % 256) as u8),
-    ];
-    u32::from_be_bytes(bytes) ^ key
-}
-
-// The column at i of a block, with the key's word added.
-fn first_column(block: &[u8; 16], i: usize, key: u32) -> u32
-    requires { i < 13 }
-    ensures { bytes_of result ≡ add_columns (column_at block.now i) (bytes_of key) }
-{
-    u32::from_be_bytes([block[i], block[i + 1], block[i + 2], block[i + 3]]) ^ key
+    u32::from_be_bytes([
+        sub_byte(a.to_be_bytes()[0]),
+        sub_byte(b.to_be_bytes()[1]),
+        sub_byte(c.to_be_bytes()[2]),
+        sub_byte(d.to_be_bytes()[3]),
+    ]) ^ key
 }
 
 // Round 0, which adds its key to the block.
@@ -44,35 +36,37 @@ fn first_round(block: &[u8; 16], w: &[u32; 44]) -> [u32; 4]
     ensures { state_of result ≡ add_round_key block.now (round_key w.now 0) }
 {
     [
-        first_column(block, 0, w[0]),
-        first_column(block, 4, w[1]),
-        first_column(block, 8, w[2]),
-        first_column(block, 12, w[3]),
+        column_at(block, 0) ^ w[0],
+        column_at(block, 1) ^ w[1],
+        column_at(block, 2) ^ w[2],
+        column_at(block, 3) ^ w[3],
     ]
 }
 
-// A round but the first and the last, on the state s.
+// A round but the first and the last.
 fn mixed_round(s: [u32; 4], w: &[u32; 44], round: usize) -> [u32; 4]
     requires { round < 11 }
     ensures { state_of result ≡ add_round_key (mix_columns (shift_rows (sub_bytes (state_of s)))) (round_key w.now round) }
 {
+    let [a, b, c, d] = s;
     [
-        mixed_column(s[0], s[1], s[2], s[3], w[4 * round]),
-        mixed_column(s[1], s[2], s[3], s[0], w[4 * round + 1]),
-        mixed_column(s[2], s[3], s[0], s[1], w[4 * round + 2]),
-        mixed_column(s[3], s[0], s[1], s[2], w[4 * round + 3]),
+        mixed_column(a, b, c, d, w[4 * round]),
+        mixed_column(b, c, d, a, w[4 * round + 1]),
+        mixed_column(c, d, a, b, w[4 * round + 2]),
+        mixed_column(d, a, b, c, w[4 * round + 3]),
     ]
 }
 
-// The last round, on the state s.
+// The last round.
 fn last_round(s: [u32; 4], w: &[u32; 44]) -> [u32; 4]
     ensures { state_of result ≡ add_round_key (shift_rows (sub_bytes (state_of s))) (round_key w.now 10) }
 {
+    let [a, b, c, d] = s;
     [
-        last_column(s[0], s[1], s[2], s[3], w[40]),
-        last_column(s[1], s[2], s[3], s[0], w[41]),
-        last_column(s[2], s[3], s[0], s[1], w[42]),
-        last_column(s[3], s[0], s[1], s[2], w[43]),
+        last_column(a, b, c, d, w[40]),
+        last_column(b, c, d, a, w[41]),
+        last_column(c, d, a, b, w[42]),
+        last_column(d, a, b, c, w[43]),
     ]
 }
 
@@ -95,8 +89,9 @@ pub(crate) fn cipher(block: &[u8; 16], w: &[u32; 44]) -> [u8; 16]
     ensures { result ≡ cipher block.now w.now }
 {
     let mut s = first_round(block, w);
-    for i in 0..9 {
-        let next = mixed_round(s, w, i + 1);
+    for round in 1..10 {
+        // two steps: the prover does not cover a call whose result is an array that is assigned at once
+        let next = mixed_round(s, w, round);
         s = next;
     }
     block_of(last_round(s, w))

@@ -1,7 +1,8 @@
 // The key schedule of FIPS 197.
 
-ghost use Rattle.std.specs.Prelude.{◌≡◌, ◌<◌, ◌≤◌, length};
-ghost use Rattle.aes.specs.Fips197.{rot_word, sub_word, rcon, scheduled, key_word, key_expansion};
+ghost use Rattle.std.specs.Prelude.{◌≡◌, ◌*◌, ◌<◌, ◌≤◌, length};
+ghost use Rattle.aes.specs.Columns.{column_at};
+ghost use Rattle.aes.specs.Fips197.{bytes_of, rot_word, sub_word, rcon, scheduled, key_word, key_expansion};
 
 use crate::tables::sub_byte;
 
@@ -23,13 +24,8 @@ fn round_constant(j: usize) -> u32
 fn turned_word(w: u32) -> u32
     ensures { result ≡ sub_word (rot_word w) }
 {
-    let bytes = w.to_be_bytes();
-    u32::from_be_bytes([
-        sub_byte(bytes[1]),
-        sub_byte(bytes[2]),
-        sub_byte(bytes[3]),
-        sub_byte(bytes[0]),
-    ])
+    let [a, b, c, d] = w.to_be_bytes();
+    u32::from_be_bytes([sub_byte(b), sub_byte(c), sub_byte(d), sub_byte(a)])
 }
 
 // Word i of the schedule, from the word before it, temp, and the word four places before it.
@@ -44,12 +40,18 @@ fn word_at(i: usize, temp: u32, before: u32) -> u32
     }
 }
 
-// Word i of the key.
-fn key_word_at(key: &[u8], i: usize) -> u32
-    requires { (length key.now ≡ 16) × (i < 4) }
-    ensures { result ≡ key_word key.now i }
+// Word i of some bytes, as FIPS 197 makes words of a key and columns of a block: the first byte is the highest.
+pub(crate) fn column_at(bytes: &[u8], i: usize) -> u32
+    requires { (length bytes.now ≡ 16) × (i < 4) }
+    ensures word { result ≡ key_word bytes.now i }
+    ensures bytes { bytes_of result ≡ column_at bytes.now (4 * i) }
 {
-    u32::from_be_bytes([key[4 * i], key[4 * i + 1], key[4 * i + 2], key[4 * i + 3]])
+    u32::from_be_bytes([
+        bytes[4 * i],
+        bytes[4 * i + 1],
+        bytes[4 * i + 2],
+        bytes[4 * i + 3],
+    ])
 }
 
 // The key schedule.
@@ -58,12 +60,11 @@ pub(crate) fn expanded(key: &[u8]) -> [u32; 44]
     ensures { result ≡ key_expansion key.now }
 {
     let mut w = [0; 44];
-    w[0] = key_word_at(key, 0);
-    w[1] = key_word_at(key, 1);
-    w[2] = key_word_at(key, 2);
-    w[3] = key_word_at(key, 3);
-    for n in 0..40 {
-        w[n + 4] = word_at(n + 4, w[n + 3], w[n]);
+    for i in 0..4 {
+        w[i] = column_at(key, i);
+    }
+    for i in 4..44 {
+        w[i] = word_at(i, w[i - 1], w[i - 4]);
     }
     w
 }

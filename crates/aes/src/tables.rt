@@ -1,7 +1,8 @@
 // The S-box, and the table of the round transformation, each with its rule.
 
 ghost use Rattle.std.specs.Prelude.{◌≡◌, ◌<◌};
-ghost use Rattle.aes.specs.Fips197.{s_box, inverse, ◌•◌, word_of};
+ghost use Rattle.aes.specs.Fips197.{s_box, inverse, ◌•◌};
+ghost use Rattle.aes.specs.Columns.{mixed_row};
 
 // FIPS 197's figure of the S-box, row after row.
 const SBOX: &[u8; 256] = b"\x63\x7c\x77\x7b\xf2\x6b\x6f\xc5\x30\x01\x67\x2b\xfe\xd7\xab\x76\
@@ -66,27 +67,16 @@ pub(crate) fn sub_byte(x: u8) -> u8
 }
 
 // What a byte in row 0, substituted, adds to the mixed column.
-pub(crate) fn mixed_row0(x: u8) -> u32
-    ensures { result ≡ word_of (2 • s_box x) (s_box x) (s_box x) (3 • s_box x) }
+fn mixed_row0(x: u8) -> u32
+    ensures { result ≡ mixed_row 0 x }
 {
     T0[x as usize]
 }
 
-// The same from row 1, whose coefficients are those of row 0 turned by one place; so with rows 2 and 3.
-pub(crate) fn mixed_row1(x: u8) -> u32
-    ensures { result ≡ word_of (3 • s_box x) (2 • s_box x) (s_box x) (s_box x) }
+// The same from row R, whose coefficients are those of row 0 turned by R places.
+pub(crate) fn mixed_row<const R: u32>(x: u8) -> u32
+    requires { R < 4 }
+    ensures { result ≡ mixed_row R x }
 {
-    mixed_row0(x).rotate_right(8)
-}
-
-pub(crate) fn mixed_row2(x: u8) -> u32
-    ensures { result ≡ word_of (s_box x) (3 • s_box x) (2 • s_box x) (s_box x) }
-{
-    mixed_row1(x).rotate_right(8)
-}
-
-pub(crate) fn mixed_row3(x: u8) -> u32
-    ensures { result ≡ word_of (s_box x) (s_box x) (3 • s_box x) (2 • s_box x) }
-{
-    mixed_row2(x).rotate_right(8)
+    mixed_row0(x).rotate_right(8 * R)
 }

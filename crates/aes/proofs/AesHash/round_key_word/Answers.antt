@@ -1,19 +1,22 @@
 -- The words are the key schedule of the key that they hold.
-use Rattle.std.proofs.Common.{ℕ, Bool, cond, List, get_or, Some, None, ap, ap₂}
-use borrow.Author.Tests.{lt-true, le-false}
-use Rattle.aes.specs.Columns.{state_of}
-use Rattle.aes.specs.Fips197.{key_expansion}
+use Rattle.std.proofs.Common.{◌≡◌, ℕ, ◌<◌, Bool, true, cond, List, length, get_or, Option, Some, None, Bor, sym, ap, ◌∙◌, ap₂, arith, ltb, ltb-true}
+use Rattle.std.proofs.lemmas.List.{get_or_default}
+use Rattle.std.specs.Option.{is_some, IfSome, option_copied}
 use Rattle.aes.specs.Keys.{material_of, schedule_word}
 use Rattle.aes.proofs.AesHash.round_key_word.Goals as goal
 
-pub returns-then-i-lt44 : goal.returns-then-i-lt44
-unfolding material_of schedule_word
-returns-then-i-lt44 c =
-    ap₂ (λ (b : Bool) (w : List ℕ). cond b (Some (get_or w c.args.i 0)) None)
-    (lt-true c.args.i 44 c.if-i-lt44.true) c.args.self.now.expands
+got : (o : Option (Bor ℕ)) (words : List ℕ) (i : ℕ) → is_some o ≡ ltb i 44 → IfSome o (λ x. x.now ≡ get_or words i x.now) → length words ≡ 44
+    → option_copied o ≡ cond (ltb i 44) (Some (get_or words i 0)) None
+got (Some x) words i a b long =
+    let within : i < 44 = ltb-true i 44 (sym a) in
+    ap Some (b ∙ get_or_default words i x.now 0 (omega arith)) ∙ ap (λ (v : Bool). cond v (Some (get_or words i 0)) None) a
+got None words i a b long = ap (λ (v : Bool). cond v (Some (get_or words i 0)) None) a
 
-pub returns-else-i-lt44 : goal.returns-else-i-lt44
+pub returns : goal.returns
 unfolding material_of schedule_word
-returns-else-i-lt44 c =
-    ap (λ (b : Bool). cond b (Some (get_or (key_expansion (state_of c.args.self.now.words)) c.args.i 0)) None)
-    (le-false c.args.i 44 c.if-i-lt44.false)
+returns c =
+    let words = c.args.self.now.words in
+    let long : length words ≡ 44 = omega arith in
+    c.copied.ensures
+    ∙ got c.get.result words c.args.i (c.get.ensures.lookup.0 ∙ ap (ltb c.args.i) long) c.get.ensures.lookup.1 long
+    ∙ ap (λ (l : List ℕ). cond (ltb c.args.i 44) (Some (get_or l c.args.i 0)) None) c.args.self.now.expands

@@ -1,5 +1,5 @@
--- The sum is the product with the tweak's i highest coefficients, and after 32 turns with all of them.
-use Rattle.std.proofs.Common.{◌-◌, ◌*◌, ◌/◌, ◌%◌, ◌^◌, ap, ◌∙◌, arith}
+-- The sum is the product with the tweak's coefficients from i on, and at the end with all of them.
+use Rattle.std.proofs.Common.{◌≡◌, ℕ, ◌+◌, ◌-◌, ◌*◌, ◌/◌, ◌%◌, ◌^◌, ap, ◌∙◌, arith}
 use lib.Bits.{bit_xor}
 use Rattle.aes.proofs.Tweaks.{high_product, high_none, high_more, high_all}
 use Rattle.aes.proofs.gf64.times_tweak.Goals as goal
@@ -9,10 +9,15 @@ loop-i-init c = high_none c.args.a c.args.tweak
 
 pub loop-i-preserved : goal.loop-i-preserved
 loop-i-preserved c =
-    ap (bit_xor (c.args.tweak / 2 ^ (31 - c.loop-i.i) % 2 * c.args.a)) c.twice.ensures
-    ∙ high_more c.args.a c.args.tweak c.loop-i.i c.loop-i.sum (omega arith) (omega arith) c.loop-i.invariant
+    let a = c.args.a in
+    let tweak = c.args.tweak in
+    let i : ℕ = c.loop-i.i - 1 in
+    let next : c.loop-i.i ≡ i + 1 = omega arith in
+    ap (λ (v : ℕ). bit_xor (v * a) c.twice.result) c.from-coefficient.ensures
+    ∙ ap (bit_xor (tweak / 2 ^ i % 2 * a)) c.twice.ensures
+    ∙ high_more a tweak i c.loop-i.sum (omega arith) (omega arith) (c.loop-i.invariant ∙ ap (high_product a tweak) next)
 
 pub returns : goal.returns
 returns c =
-    c.loop-i.invariant ∙ ap (high_product c.args.a c.args.tweak) (omega arith)
-    ∙ high_all c.args.a c.args.tweak (omega arith) (omega arith)
+    let end : c.loop-i.i ≡ 0 = omega arith in
+    c.loop-i.invariant ∙ ap (high_product c.args.a c.args.tweak) end ∙ high_all c.args.a c.args.tweak (omega arith) (omega arith)

@@ -1,4 +1,4 @@
--- After i turns the sum is the product with the tweak's i highest coefficients.
+-- The sum is the product with the tweak's coefficients from i on.
 use Rattle.std.proofs.Common.{◌≡◌}
 use Rattle.aes.proofs.Tweaks.{high_product}
 use Rattle.aes.proofs.gf64.times_tweak.Given as goal

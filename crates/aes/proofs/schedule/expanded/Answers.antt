@@ -1,44 +1,49 @@
 -- Each turn puts the next word behind the words that stand.
-use Rattle.std.proofs.Common.{◌≡◌, ℕ, ◌+◌, ◌<◌, List, [], ◌∷◌, ◌++◌, length, get_or, take, set, sym, refl, ap, ◌∙◌, ap₂, add-one, arith, length-set, get_or-take}
+use Rattle.std.proofs.Common.{◌≡◌, ℕ, suc, ◌+◌, ◌-◌, ◌<◌, ◌≤◌, List, [], ◌∷◌, ◌++◌, length, get_or, take, set, sym, ap, ◌∙◌, ap₂, arith, length-set, length-take, get_or-take}
 use Rattle.std.proofs.lemmas.List.{take_more_set, take_all}
-use Rattle.aes.specs.Fips197.{scheduled, next_word, schedule, key_expansion}
+use Rattle.std.proofs.lemmas.List.Edits.{fill_by_more}
+use Rattle.std.proofs.lemmas.List.FromFn.{fill_by_all}
+use Rattle.aes.specs.Fips197.{key_word, scheduled, next_word, schedule, key_expansion}
 use Rattle.aes.proofs.schedule.expanded.Goals as goal
 
-next_is : (w : List ℕ) (n : ℕ) → scheduled (n + 4) (get_or w (n + 3) 0) (get_or w n 0) ≡ next_word (take (n + 4) w) (n + 4)
+next_is : (w : List ℕ) (i : ℕ) → 4 ≤ i → scheduled i (get_or w (i - 1) 0) (get_or w (i - 4) 0) ≡ next_word (take i w) i
 unfolding next_word
-next_is w n =
-    let le : n + 3 < n + 4 = omega arith in
-    let lt : n < n + 4 = omega arith in
-    ap₂ (scheduled (n + 4))
-    (sym (get_or-take (n + 4) w (n + 3) 0 le) ∙ ap (λ (k : ℕ). get_or (take (n + 4) w) k 0) (omega arith))
-    (sym (get_or-take (n + 4) w n 0 lt) ∙ ap (λ (k : ℕ). get_or (take (n + 4) w) k 0) (omega arith))
+next_is w i h = ap₂ (scheduled i) (sym (get_or-take i w (i - 1) 0 (omega arith))) (sym (get_or-take i w (i - 4) 0 (omega arith)))
 
-more : (w key : List ℕ) (n v : ℕ) → n + 4 < length w → take (n + 4) w ≡ schedule n key → v ≡ scheduled (n + 4) (get_or w (n + 3) 0) (get_or w n 0)
-    → take (n + 1 + 4) (set w (n + 4) v) ≡ schedule (n + 1) key
+more : (w key : List ℕ) (n i v : ℕ) → i ≡ n + 4 → i < length w → take i w ≡ schedule n key
+    → v ≡ scheduled i (get_or w (i - 1) 0) (get_or w (i - 4) 0) → take (i + 1) (set w i v) ≡ schedule (suc n) key
 unfolding schedule
-more w key n v long stand e =
-    ap (λ (k : ℕ). take k (set w (n + 4) v)) (omega arith)
-    ∙ take_more_set w (n + 4) v long
-    ∙ ap₂ (λ (l : List ℕ) (x : ℕ). l ++ x ∷ []) stand (e ∙ next_is w n ∙ ap (λ (l : List ℕ). next_word l (n + 4)) stand)
-    ∙ ap (λ (m : ℕ). schedule m key) (sym (add-one n))
+more w key n i v at long stand e =
+    take_more_set w i v long
+    ∙ ap₂ (λ (l : List ℕ) (x : ℕ). l ++ x ∷ []) stand (e ∙ next_is w i (omega arith) ∙ ap₂ next_word stand at)
 
-pub loop-n-init : goal.loop-n-init
+pub loop-i-preserved : goal.loop-i-preserved
+loop-i-preserved c =
+    let i = c.loop-i.i in (
+      (λ k h. ap (λ (v : ℕ). get_or (set c.loop-i.w i v) k 0) c.column_at.ensures.word
+          ∙ fill_by_more (key_word c.args.key.now) c.loop-i.w i 0 (omega arith) c.loop-i.invariant.0 k h),
+      simp length-set c.loop-i.invariant.1,
+    )
+
+pub loop-i-2-init : goal.loop-i-2-init
 unfolding schedule
-loop-n-init c =
-    let p = c.key_word_at.ensures in
-    let q = c.key_word_at-2.ensures in
-    let r = c.key_word_at-3.ensures in
-    let s = c.key_word_at-4.ensures in
-    ((λ i. p i ∷ q i ∷ r i ∷ s i ∷ []), refl)
+loop-i-2-init c =
+    let w = c.loop-i.w in (
+      fill_by_all (key_word c.args.key.now) (take 4 w) 4 0 (simp length-take (omega arith))
+          (λ k h. get_or-take 4 w k 0 h ∙ c.loop-i.invariant.0 k (omega arith)),
+      c.loop-i.invariant.1,
+    )
 
-pub loop-n-preserved : goal.loop-n-preserved
-loop-n-preserved c = (
-  more c.loop-n.w c.args.key.now c.loop-n.n c.word_at.result (omega arith) c.loop-n.invariant.0 c.word_at.ensures,
-  simp length-set c.loop-n.invariant.1,
-)
+pub loop-i-2-preserved : goal.loop-i-2-preserved
+loop-i-2-preserved c =
+    let i = c.loop-i-2.i in (
+      more c.loop-i-2.w c.args.key.now (i - 4) i c.word_at.result (omega arith) (omega arith) c.loop-i-2.invariant.0 c.word_at.ensures
+          ∙ ap (λ (n : ℕ). schedule n c.args.key.now) (omega arith),
+      simp length-set c.loop-i-2.invariant.1,
+    )
 
 pub returns : goal.returns
 unfolding key_expansion
 returns c =
-    sym (take_all (c.loop-n.n + 4) c.loop-n.w (omega arith)) ∙ c.loop-n.invariant.0
+    sym (take_all c.loop-i-2.i c.loop-i-2.w (omega arith)) ∙ c.loop-i-2.invariant.0
     ∙ ap (λ (n : ℕ). schedule n c.args.key.now) (omega arith)

@@ -6,7 +6,7 @@ use Rattle.aes.proofs.schedule.turned_word.Goals as goal
 
 pub returns : goal.returns
 returns c =
-    let e : c.to_be_bytes-bytes.result ≡ bytes_of c.args.w = c.to_be_bytes-bytes.ensures in
+    let e : c.to_be_bytes.result ≡ bytes_of c.args.w = c.to_be_bytes.ensures in
     let p = c.sub_byte.ensures.value in
     let q = c.sub_byte-2.ensures.value in
     let r = c.sub_byte-3.ensures.value in

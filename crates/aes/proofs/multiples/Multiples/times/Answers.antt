@@ -1,6 +1,6 @@
 -- Each turn adds the multiple for the next four coefficients.
 use Rattle.std.proofs.Common.{◌≡◌, ℕ, ◌+◌, ◌*◌, ◌/◌, ◌%◌, ◌^◌, ◌<◌, List, get_or, ap, ◌∙◌, ap₂, mod-eq_of_lt, arith}
-use lib.Bits.{bit_xor}
+use lib.Bits.{bit_xor, xor_comm}
 use Rattle.std.proofs.lemmas.List.FromFn.{get_or-map-range_with_len}
 use Rattle.aes.specs.Hash.{times64}
 use Rattle.aes.specs.Multiples.{multiple, multiples}
@@ -21,7 +21,8 @@ pub loop-j-preserved : goal.loop-j-preserved
 loop-j-preserved c =
     let a = c.args.self.now.factor in
     let part : ℕ = c.args.tweak / 2 ^ (4 * c.loop-j.j) % 16 in
-    ap (λ (x : ℕ). bit_xor x c.loop-j.sum)
+    xor_comm c.loop-j.sum (get_or c.args.self.now.entries (16 * c.loop-j.j + part) 0)
+    ∙ ap (λ (x : ℕ). bit_xor x c.loop-j.sum)
     (ap (λ (l : List ℕ). get_or l (16 * c.loop-j.j + part) 0) c.args.self.now.rule
     ∙ entry_is a c.loop-j.j part (omega arith) (omega arith))
     ∙ low_more a c.args.tweak c.loop-j.j c.loop-j.sum (omega arith) c.loop-j.invariant
