@@ -50,7 +50,8 @@ impl AesHash {
     {
         let masked = label.xor((self.u1.times(tweak), self.u2.times(tweak)));
         let ciphertext = label_at(&self.encrypt(to_bytes(masked)), 0);
-        let (word, control) = ciphertext.xor((twice(masked.0), twice(masked.1)));
+        let doubled = (twice(masked.0), twice(masked.1));
+        let (word, control) = ciphertext.xor(doubled);
         Answer {
             word,
             pair: ControlPair {

@@ -1,5 +1,5 @@
 -- Words in bytes: the four bytes at a place, and the bytes of words that were read.
-use Rattle.std.proofs.Common.{◌≡◌, ℕ, zero, suc, ◌+◌, ◌*◌, ◌<◌, ◌≤◌, List, [], ◌∷◌, ◌++◌, map, length, get_or, take, drop, sym, ap, ◌∙◌, ap₂, add-one, arith, drop-cons, drop-drop, take_all}
+use Rattle.std.proofs.Common.{◌≡◌, ℕ, zero, suc, ◌+◌, ◌*◌, ◌<◌, ◌≤◌, List, [], ◌∷◌, ◌++◌, map, length, get_or, take, drop, sym, ap, ◌∙◌, ap₂, add-one, arith, drop-cons, drop-drop, take_all, refl, set, append_assoc, append-nil, length-set, take-suc-set}
 use Rattle.std.proofs.Math.Seq.{take-add}
 use Rattle.std.specs.Int.{from_le_bytes, w32}
 use Rattle.std.specs.List.{range_with_len}
@@ -51,3 +51,26 @@ module _ (s : List ℕ) (below : (i : ℕ) → get_or s i 0 < 256) where
 -- 28 bytes are those of their seven words
 pub material_back : (s : List ℕ) → length s ≡ 28 → ((i : ℕ) → get_or s i 0 < 256) → serialised (words_in 7 s) ≡ s
 material_back s long below = words_back s below 7 0 (omega arith) ∙ take_all 28 s (omega arith)
+
+-- the front that ends with the byte just written
+front_set : (l : List ℕ) (i n a : ℕ) → n ≡ i + 1 → i < length l → take n (set l i a) ≡ take i l ++ a ∷ []
+front_set l i n a e h = rw (e, add-one) (take-suc-set l i a h)
+
+-- the front that ends with the four bytes just written
+pub front_set_four :
+    (l : List ℕ) (p n b0 b1 b2 b3 : ℕ) → n ≡ p + 4 → p + 4 ≤ length l
+    → take n (set (set (set (set l p b0) (p + 1) b1) (p + 2) b2) (p + 3) b3) ≡ take p l ++ b0 ∷ b1 ∷ b2 ∷ b3 ∷ []
+front_set_four l p n b0 b1 b2 b3 e h =
+    let l1 = set l p b0 in
+    let l2 = set l1 (p + 1) b1 in
+    let l3 = set l2 (p + 2) b2 in
+    front_set l3 (p + 3) n b3 (omega arith) (simp length-set (omega arith))
+    ∙ ap (λ r. r ++ b3 ∷ []) (front_set l2 (p + 2) (p + 3) b2 (omega arith) (simp length-set (omega arith)))
+    ∙ ap (λ r. (r ++ b2 ∷ []) ++ b3 ∷ []) (front_set l1 (p + 1) (p + 2) b1 (omega arith) (simp length-set (omega arith)))
+    ∙ ap (λ r. ((r ++ b1 ∷ []) ++ b2 ∷ []) ++ b3 ∷ []) (front_set l p (p + 1) b0 refl (omega arith))
+    ∙ simp append_assoc
+
+-- one word more
+pub serialised_push : (ws : List ℕ) (w : ℕ) → serialised (ws ++ w ∷ []) ≡ serialised ws ++ bytes_of 4 w
+serialised_push [] w = append-nil (bytes_of 4 w)
+serialised_push (x ∷ xs) w = ap (λ r. bytes_of 4 x ++ r) (serialised_push xs w) ∙ simp append_assoc
