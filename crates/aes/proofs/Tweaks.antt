@@ -1,5 +1,5 @@
 -- Products in GF(2^64): the doubling by a shift, and the product with a tweak, coefficient after coefficient.
-use Rattle.std.proofs.Common.{◌≡◌, ℕ, suc, ◌+◌, ◌-◌, ◌*◌, ◌/◌, ◌%◌, ◌^◌, ◌<◌, sym, refl, ap, ◌∙◌, mod-lt, div-one, add-one, arith, lit<, lit≤, pow_pos, shr-shr}
+use Rattle.std.proofs.Common.{◌≡◌, ℕ, suc, ◌+◌, ◌-◌, ◌*◌, ◌/◌, ◌%◌, ◌^◌, ◌<◌, sym, refl, ap, ◌∙◌, mod-lt, div-one, arith, lit<, lit≤, pow_pos, shr-shr}
 use native.Mathlib.Nat.{mod-one}
 use lib.Bits.{bit_xor, xor_shifted}
 use lib.Pow.{mod-pow-add}

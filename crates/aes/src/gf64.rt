@@ -4,6 +4,7 @@ ghost use Rattle.std.specs.Prelude.{◌≡◌};
 ghost use Rattle.aes.specs.Hash.{times64};
 
 // a times z.
+#[tactic(auto, using(crate::proofs::Tweaks::twice_is))]
 pub(crate) fn twice(a: u64) -> u64
     ensures { result ≡ times64 a 2 }
 {

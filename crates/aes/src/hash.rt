@@ -38,6 +38,7 @@ impl AesHash {
     }
 
     // The cipher of a block under the key.
+    #[tactic(auto, unfolding(crate::specs::Keys::material_of))]
     pub fn encrypt(&self, block: [u8; 16]) -> [u8; 16]
         ensures { result ≡ cipher block (key_expansion (material_of self.now).key) }
     {

@@ -1,5 +1,5 @@
 -- The hash of a label under key material of 28 bytes: one block, of which nine bytes are used.
-use Rattle.std.specs.Prelude.{ℕ, ◌/◌, ◌%◌, Bool, List, [], ◌∷◌, ◌++◌, take, drop, ◌==◌, slice_index}
+use Rattle.std.specs.Prelude.{ℕ, ◌/◌, ◌%◌, Bool, List, ◌++◌, take, drop, ◌==◌, slice_index}
 use Rattle.slices.specs.Little.{little, bytes_of}
 use Rattle.chacha.specs.Bytes.{serialised}
 use Rattle.label.specs.Hashes.{HashFunction}

@@ -1,5 +1,5 @@
 -- The words are the key schedule of the key that they hold.
-use Rattle.std.proofs.Common.{◌≡◌, ℕ, ◌<◌, Bool, true, cond, List, length, get_or, Option, Some, None, Bor, sym, ap, ◌∙◌, ap₂, arith, ltb, ltb-true}
+use Rattle.std.proofs.Common.{◌≡◌, ℕ, ◌<◌, Bool, cond, List, length, get_or, Option, Some, None, Bor, sym, ap, ◌∙◌, arith, ltb, ltb-true}
 use Rattle.std.proofs.lemmas.List.{get_or_default}
 use Rattle.std.specs.Option.{is_some, IfSome, option_copied}
 use Rattle.aes.specs.Keys.{material_of, schedule_word}

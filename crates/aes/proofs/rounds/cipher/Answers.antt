@@ -1,5 +1,5 @@
 -- One round after the other, from the first to the last.
-use Rattle.std.proofs.Common.{◌≡◌, ℕ, suc, ◌+◌, ◌-◌, List, sym, ap, ◌∙◌, arith}
+use Rattle.std.proofs.Common.{◌≡◌, ℕ, suc, ◌-◌, List, sym, ap, ◌∙◌, arith}
 use Rattle.aes.specs.Fips197.{sub_bytes, shift_rows, mix_columns, round_key, add_round_key, rounds, cipher}
 use Rattle.aes.proofs.rounds.cipher.Goals as goal
 

@@ -1,5 +1,5 @@
 -- The bytes of the sum of the word of the four bytes and the key's word.
-use Rattle.std.proofs.Common.{ℕ, List, get_or, ap, ◌∙◌, arith}
+use Rattle.std.proofs.Common.{ℕ, List, get_or, ap, ◌∙◌}
 use Rattle.aes.specs.Fips197.{s_box, bytes_of}
 use Rattle.aes.specs.Columns.{add_columns}
 use Rattle.aes.proofs.Words.{four, bytes_xor, bytes_word}

@@ -1,5 +1,5 @@
 -- The 20 rounds give a state, and each call adds two words.
-use Rattle.std.proofs.Common.{◌≡◌, ℕ, get_or, sym, refl, ap, ◌∙◌, ap₂, arith, rules}
+use Rattle.std.proofs.Common.{get_or, sym, refl, ap, ◌∙◌, ap₂, arith, rules}
 use Rattle.std.proofs.lemmas.List.FromFn.{fill_by_all}
 use Rattle.chacha.specs.Words.{plus}
 use Rattle.chacha.specs.Block.{added, final_state}

@@ -1,5 +1,5 @@
 -- Each call reads its word.
-use Rattle.std.proofs.Common.{◌≡◌, ℕ, ◌+◌, ◌*◌, ◌<◌, [], ◌∷◌, get_or, ◌∙◌, arith, rules}
+use Rattle.std.proofs.Common.{◌≡◌, ◌+◌, ◌*◌, [], ◌∷◌, get_or, ◌∙◌, arith, rules}
 use Rattle.std.specs.Int.{from_le_bytes, w32}
 use Rattle.chacha.specs.Bytes.{word_at}
 use Rattle.chacha.proofs.Calls.{made_by}
