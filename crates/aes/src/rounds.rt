@@ -74,6 +74,7 @@ fn last_round(s: [u32; 4], w: &[u32; 44]) -> [u32; 4]
 fn block_of(s: [u32; 4]) -> [u8; 16]
     ensures { result ≡ state_of s }
 {
+    // listed: an index, divided for word and byte, is no plainer
     let a = s[0].to_be_bytes();
     let b = s[1].to_be_bytes();
     let c = s[2].to_be_bytes();

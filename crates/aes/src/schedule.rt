@@ -46,6 +46,7 @@ pub(crate) fn column_at(bytes: &[u8], i: usize) -> u32
     ensures word { result ≡ key_word bytes.now i }
     ensures bytes { bytes_of result ≡ column_at bytes.now (4 * i) }
 {
+    // not slices::bytes_at, which wants a narrower place and puts zeros past the end
     u32::from_be_bytes([
         bytes[4 * i],
         bytes[4 * i + 1],

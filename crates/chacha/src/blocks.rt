@@ -12,6 +12,7 @@ pub(crate) fn words_in<const N: usize>(bytes: &[u8]) -> [u32; N]
     requires { 4 * N ≤ length bytes.now }
     ensures { result ≡ words_in N bytes.now }
 {
+    // not slices::bytes_at, which wants a narrower place and puts zeros past the end
     from_fn(|i| {
         u32::from_le_bytes([
             bytes[4 * i],
