@@ -1,3 +1,2 @@
-mod Calls
 mod Words
 pub mod Examples

@@ -1,2 +1,3 @@
+pub mod Calls
 pub mod LittleLaws
 pub mod Widths
