@@ -8,15 +8,18 @@ use Rattle.label.specs.Labels.{Label}
 use Rattle.label.specs.Hashes.{HashFunction, Question, Asked}
 use Rattle.label.proofs.Chains.{asked_append}
 use Rattle.wires.specs.Wires.{Wiring, first_at, second_at, class_at, is_input, is_free, is_garbled, wires_where}
+use Rattle.gate.specs.declared.garble.SentGate.{SentGate}
+use Rattle.gate.specs.Classes.{parity_of}
 use Rattle.gate.specs.Sums.{sum_of}
 use Rattle.garbling.specs.Tweaks.{gate_tweak}
-use Rattle.garbling.specs.Garbling.{parity_of, label_in, gate_index}
+use Rattle.garbling.specs.Garbling.{label_in, gate_index}
 use Rattle.garbling.specs.Words.{kept_at, labels_kept, keeping}
 use Rattle.garbling.specs.Steps.{met_with, met_asks}
-use Rattle.garbling.specs.Evaluation.{SentGate, met_from, met_below, gate_met, evaluate_asks_at}
+use Rattle.garbling.specs.Evaluation.{met_from, met_below, gate_met, evaluate_asks_at}
 use Rattle.garbling.proofs.Kept.{kept_more, kept_none}
 use Rattle.form.specs.Read.{gates_in}
-use Rattle.server.specs.Labels.{sent_at, HoldInputs}
+use Rattle.server.specs.Gates.{sent_at}
+use Rattle.server.specs.Labels.{HoldInputs}
 use Rattle.server.proofs.Numbered.{sent_same}
 use Rattle.server.proofs.Rooms.{kept_other}
 

@@ -8,5 +8,5 @@ use Rattle.server.proofs.outputs.check_outputs.Given as goal
 
 abbrev pub invariant-loop-wire : goal.invariant-loop-wire
 invariant-loop-wire l =
-    (lowest_where 16 (λ w. kept_neither (wiring_of l.circuit) l.form.bytes.now l.words w (output_index (wiring_of l.circuit) w)) l.wire ≡ None)
-    × ((l.output ≡ length (wires_where (is_output (wiring_of l.circuit)) l.wire)) × (l.output ≤ l.wire))
+    (lowest_where 16 (λ w. kept_neither (wiring_of l.form.circuit) l.form.bytes.now l.words w (output_index (wiring_of l.form.circuit) w)) l.wire ≡ None)
+    × ((l.output ≡ length (wires_where (is_output (wiring_of l.form.circuit)) l.wire)) × (l.output ≤ l.wire))
