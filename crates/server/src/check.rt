@@ -1,9 +1,10 @@
 // The check of a form, step by step: the sizes, the length, the wires, the two numbers, the control words.
 
 ghost use Rattle.std.specs.Prelude.{◌≡◌};
+ghost use Rattle.std.specs.Option.{option_map};
 ghost use Rattle.refusal.specs.Told.{Finds};
 ghost use Rattle.wires.specs.Read.{wiring_of};
-ghost use Rattle.server.specs.Faults.{counts_fault, highs_clear, controls_sound, controls_wrong, controls_fault, parts_fault, fault_of};
+ghost use Rattle.server.specs.Faults.{counts_fault, highs_clear, controls_sound, controls_fault, parts_fault, fault_of};
 
 use crate::read::Form;
 use circuit::{MOST_OUTPUTS, TruthRule, check_sizes, check_wires};
@@ -46,28 +47,28 @@ impl Form<'_> {
         Ok(())
     }
 
-    // Whether a wire is a gate whose control word has bits that must be zero; `gate` garbled gates came before it.
-    fn controls_wrong(&self, wire: u16, gate: u16) -> bool
-        ensures { result ≡ controls_wrong (wiring_of self.now.circuit) self.now.bytes.now wire gate }
+    // The lowest gate whose control word has bits that must be zero, with its number among those that are garbled.
+    fn wrong_gate(&self) -> Option<(u16, u16)>
+        ensures { option_map (λ gate. (14, gate.0)) result ≡ controls_fault (wiring_of self.now.circuit) self.now.bytes.now }
     {
-        self.circuit.is_garbled(wire)
-            && !controls_sound(self.circuit.class(wire), self.control_word(gate))
+        (0..self.circuit.wires)
+            .filter(|wire| self.circuit.is_garbled(*wire))
+            .zip(0..self.circuit.wires)
+            .find(|(wire, gate)| {
+                !controls_sound(self.circuit.class(*wire), self.control_word(*gate))
+            })
     }
 
     // Every control word is sound, or the lowest gate whose is not.
     fn check_controls(&self) -> Result<(), Refusal>
         ensures { Finds result (controls_fault (wiring_of self.now.circuit) self.now.bytes.now) }
     {
-        let mut gate = 0;
-        for wire in 0..self.circuit.wires {
-            if self.controls_wrong(wire, gate) {
-                return Err(Refusal::ControlBits {
-                    wire: u32::from(wire),
-                });
-            }
-            gate += u16::from(self.circuit.is_garbled(wire));
+        match self.wrong_gate() {
+            Some((wire, _)) => Err(Refusal::ControlBits {
+                wire: u32::from(wire),
+            }),
+            None => Ok(()),
         }
-        Ok(())
     }
 
     // What follows the sizes and the length.

@@ -1,6 +1,7 @@
 // The outputs of a run: all marks are asked for, then each is read against the two of the form, then the bytes are written.
 
 ghost use Rattle.std.specs.Prelude.{◌≡◌, ◌*◌, length, is_ok, if◌then◌else◌};
+ghost use Rattle.std.specs.Option.{option_map};
 ghost use Rattle.refusal.specs.Told.{Finds};
 ghost use Rattle.label.specs.Hashes.{Asked};
 ghost use Rattle.wires.specs.Wires.{output_wires};
@@ -9,7 +10,7 @@ ghost use Rattle.garbling.specs.Garbling.{label_in};
 ghost use Rattle.garbling.specs.Marks.{mark_of, mark_questions};
 ghost use Rattle.garbling.specs.Words.{labels_kept, keeping};
 ghost use Rattle.garbling.specs.Evaluation.{read_mark, output_asks};
-ghost use Rattle.server.specs.Outputs.{bit_byte, neither_fault, output_bytes, HoldMarks, kept_bit, kept_neither, kept_fault, kept_bytes};
+ghost use Rattle.server.specs.Outputs.{bit_byte, neither_fault, output_bytes, HoldMarks, kept_bit, kept_fault, kept_bytes};
 
 use crate::read::Form;
 use garbling::{Mark, keep_label, label_below, query_mark};
@@ -62,27 +63,26 @@ fn output_bit(form: &Form, words: &[u64], wire: u16, output: u16) -> Option<bool
     read_mark(false_mark, true_mark, mark)
 }
 
-// Whether a wire is an output whose mark is neither of its two.
-fn is_neither(form: &Form, words: &[u64], wire: u16, output: u16) -> bool
-    ensures { result ≡ kept_neither (wiring_of form.now.circuit) form.now.bytes.now words.now wire output }
+// The lowest output whose mark is neither of its two, with its number among the outputs.
+fn unread_output(form: &Form, words: &[u64]) -> Option<(u16, u16)>
+    ensures { option_map (λ output. (16, output.0)) result ≡ kept_fault (wiring_of form.now.circuit) form.now.bytes.now words.now }
 {
-    form.circuit.is_output(wire) && output_bit(form, words, wire, output).is_none()
+    (0..form.circuit.wires)
+        .filter(|wire| form.circuit.is_output(*wire))
+        .zip(0..form.circuit.wires)
+        .find(|(wire, output)| output_bit(form, words, *wire, *output).is_none())
 }
 
 // Every output meets one of its marks, or the lowest that meets neither.
 fn check_outputs(form: &Form, words: &[u64]) -> Result<(), Refusal>
     ensures { Finds result (kept_fault (wiring_of form.now.circuit) form.now.bytes.now words.now) }
 {
-    let mut output = 0;
-    for wire in 0..form.circuit.wires {
-        if is_neither(form, words, wire, output) {
-            return Err(Refusal::NeitherMark {
-                wire: u32::from(wire),
-            });
-        }
-        output += u16::from(form.circuit.is_output(wire));
+    match unread_output(form, words) {
+        Some((wire, _)) => Err(Refusal::NeitherMark {
+            wire: u32::from(wire),
+        }),
+        None => Ok(()),
     }
-    Ok(())
 }
 
 // The byte of an output by the mark kept for it.
