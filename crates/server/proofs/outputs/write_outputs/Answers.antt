@@ -16,9 +16,6 @@ bounds-outputs-from c =
     let room = count_below (is_output (wiring_of c.args.form.now.circuit)) c.loop-wire.wire c.args.form.now.circuit.wires (omega arith) (sym c.if-is_output.ensures) in
     omega (arith, c.loop-wire.invariant.0.0, c.from.ensures)
 
-pub overflow_add-next : goal.overflow_add-next
-overflow_add-next c = omega (arith, c.loop-wire.invariant.1)
-
 pub loop-wire-preserved : goal.loop-wire-preserved
 loop-wire-preserved c =
     let circuit = wiring_of c.args.form.now.circuit in
