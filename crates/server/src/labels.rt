@@ -26,6 +26,7 @@ fn take_label(sheets: &Sheets, wire: u16) -> Result<Label, Refusal>
 }
 
 // The labels of all inputs, each from its owner's sheet into the words; or the lowest that has not come.
+// The words' length is asked for here and below: in a struct of the words, each function would ask instead that its circuit is the form's.
 pub(crate) fn take_labels(sheets: &Sheets, words: &mut [u64]) -> Result<(), Refusal>
     requires { length words.old ≡ 2 * sheets.now.circuit.wires }
     ensures fault { Finds result (missing_fault (wiring_of sheets.now.circuit) (sheets_of sheets.now)) }
@@ -55,6 +56,7 @@ pub(crate) fn evaluate_wires<H: Hash>(form: &Form, hash: &mut H, words: &mut [u6
     ensures kept { H.function hash.new ≡ H.function hash.old }
     ensures asked { EvaluateAsked H.asks (wiring_of form.now.circuit) form.now.bytes.now (H.function hash.old) words.old hash.old hash.new }
 {
+    // Counted by hand: every wire is visited, and only garbled gates are numbered.
     let mut gate = 0;
     for wire in 0..form.circuit.wires {
         evaluate_next(form, hash, words, wire, gate);

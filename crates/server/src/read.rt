@@ -1,6 +1,6 @@
 // A form as it is read: its bytes, borrowed, with the circuit that they state. Every reader answers for all bytes.
 
-ghost use Rattle.std.specs.Prelude.{◌≡◌, ◌+◌, ◌*◌, ◌^◌, ◌<◌, drop, if◌then◌else◌, nat_lt, slice_index_or};
+ghost use Rattle.std.specs.Prelude.{◌≡◌, ◌+◌, ◌*◌, ◌^◌, ◌<◌, if◌then◌else◌, nat_lt, slice_index_or};
 ghost use Rattle.slices.specs.Little.{short_at};
 ghost use Rattle.label.specs.Labels.{label_at};
 ghost use Rattle.wires.specs.Read.{wiring_of};
@@ -22,13 +22,6 @@ pub(crate) struct Form<'a> {
     ghost stated: { wiring_of circuit ≡ form_wiring bytes.now },
 }
 
-// The bytes after the sizes.
-fn past_sizes(bytes: &[u8]) -> &[u8]
-    ensures { result.now ≡ drop 8 bytes.now }
-{
-    bytes.get(8..).unwrap_or(&[])
-}
-
 impl<'a> Form<'a> {
     // The form in these bytes, whatever they are.
     pub(crate) fn new(bytes: &'a [u8]) -> Form<'a>
@@ -37,7 +30,7 @@ impl<'a> Form<'a> {
         let circuit = Circuit {
             wires: short_at(bytes, 0),
             inputs: short_at(bytes, 2),
-            arrays: past_sizes(bytes),
+            arrays: bytes.get(8..).unwrap_or(&[]),
         };
         Form { bytes, circuit }
     }
@@ -105,6 +98,7 @@ impl<'a> Form<'a> {
             return (0, 0);
         }
         let at = from + 16 * u32::from(output);
+        // Word by word, for `label_at` takes places of 16 bits.
         (word_at(self.bytes, at), word_at(self.bytes, at + 8))
     }
 

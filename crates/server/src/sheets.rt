@@ -94,6 +94,7 @@ fn label_on(sheet: &[u8], inputs: u16, wire: u16) -> Option<Label>
     ensures { result ≡ label_read inputs sheet.now wire }
 {
     let at = 2 + u32::from(inputs) + 16 * u32::from(wire);
+    // Word by word, for `label_at` takes places of 16 bits.
     let label = (word_at(sheet, at), word_at(sheet, at + 8));
     (item_or(sheet, 2 + usize::from(wire), 0) == 1).then_some(label)
 }

@@ -1,11 +1,11 @@
-use Rattle.std.proofs.Common.{◌≡◌, ℕ, ◌+◌, ◌*◌, List, nat_lt, sym, ap, ◌∙◌, arith, rules}
+use Rattle.std.proofs.Common.{◌≡◌, nat_lt, sym, ap, ◌∙◌, arith}
 use Rattle.std.proofs.lemmas.Bool.{lt-ltb, cond-true}
 use Rattle.std.proofs.lemmas.Grind.{common_steps}
 use Rattle.gate.specs.declared.garble.SentGate.{SentGate}
 use Rattle.slices.specs.Little.{short_at}
 use Rattle.form.specs.Controls.{controls_in}
 use Rattle.form.specs.Read.{gates_stated, gate_at}
-use Rattle.server.specs.Gates.{sent_at, blank_gate}
+use Rattle.server.specs.Gates.{blank_gate}
 use Rattle.server.proofs.read.Form.sent_gate.Goals as goal
 
 pub returns : goal.returns
