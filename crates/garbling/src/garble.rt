@@ -4,35 +4,24 @@ ghost use Rattle.std.specs.Prelude.{◌≡◌};
 ghost use Rattle.label.specs.Hashes.{Asked};
 ghost use Rattle.wires.specs.Read.{wiring_of};
 ghost use Rattle.wires.specs.Wires.{class_at, truth_at};
+ghost use Rattle.gate.specs.Classes.{parity_of};
 ghost use Rattle.gate.specs.Gates.{garbled_gate, gate_questions};
 ghost use Rattle.garbling.specs.Tweaks.{gate_tweak};
 ghost use Rattle.garbling.specs.Tape.{offset_in, dice_in};
-ghost use Rattle.garbling.specs.Garbling.{parity_of};
 ghost use Rattle.garbling.specs.Words.{labels_kept};
 ghost use Rattle.garbling.specs.Steps.{made_from, made_asks};
 
 use crate::tape::{draw_dice, draw_input, draw_offset};
-use crate::words::label_below;
-use gate::{GarbledGate, Parity, free_gate, garble_gate};
+use crate::words::labels_below;
+use gate::{GarbledGate, LabelPair, Parity, SentGate, free_gate, garble_gate};
 use label::{Hash, Label};
-use wires::{Circuit, Class};
+use wires::Circuit;
 
-// What is made of a wire: a label alone, or a garbled gate.
+// What is made of a wire: its false label, and what is sent of its gate where that is garbled.
 #[derive(Clone, Copy)]
-pub enum MadeWire {
-    Plain(Label),
-    Gate(GarbledGate),
-}
-
-// The parity by which a class is garbled.
-pub(crate) fn parity_of(class: Class) -> Parity
-    ensures { result ≡ parity_of class }
-{
-    match class {
-        Class::Free | Class::Even => Parity::Even,
-        Class::Odd => Parity::Odd,
-        Class::Hidden => Parity::Hidden,
-    }
+pub struct MadeWire {
+    pub label: Label,
+    pub gate: Option<SentGate>,
 }
 
 // The first of a gate's three tweaks.
@@ -47,25 +36,25 @@ fn garble_with<H: Hash>(
     hash: &mut H,
     circuit: &Circuit,
     drawn: &[u8],
-    first: Label,
-    second: Label,
+    labels: LabelPair,
     wire: u16,
     garbled: u16,
 ) -> GarbledGate
-    ensures value { result ≡ garbled_gate (H.function hash.old) (parity_of (class_at (wiring_of circuit.now) wire)) (truth_at (wiring_of circuit.now) wire) (dice_in drawn.now circuit.now.inputs garbled) (offset_in drawn.now) first second (gate_tweak wire) }
+    ensures value { result ≡ garbled_gate (H.function hash.old) (parity_of (class_at (wiring_of circuit.now) wire)) (truth_at (wiring_of circuit.now) wire) (dice_in drawn.now circuit.now.inputs garbled) (offset_in drawn.now) labels.first labels.second (gate_tweak wire) }
     ensures kept { H.function hash.new ≡ H.function hash.old }
-    ensures asked { Asked H.asks (gate_questions (offset_in drawn.now) first second (gate_tweak wire)) hash.old hash.new }
+    ensures asked { Asked H.asks (gate_questions (offset_in drawn.now) labels.first labels.second (gate_tweak wire)) hash.old hash.new }
 {
+    let parity = Parity::from(circuit.class(wire));
     let truth_table = circuit.truth_table(wire);
     let dice = draw_dice(drawn, circuit.inputs, garbled);
+    let delta = draw_offset(drawn);
     garble_gate(
         hash,
-        parity_of(circuit.class(wire)),
+        parity,
         truth_table,
         dice,
-        draw_offset(drawn),
-        first,
-        second,
+        delta,
+        labels,
         gate_tweak(wire),
     )
 }
@@ -84,14 +73,21 @@ pub fn garble_wire<H: Hash>(
     ensures asked { Asked H.asks (made_asks (wiring_of circuit.now) drawn.now (labels_kept words.now wire) wire) hash.old hash.new }
 {
     if circuit.is_input(wire) {
-        return MadeWire::Plain(draw_input(drawn, wire));
+        return MadeWire {
+            label: draw_input(drawn, wire),
+            gate: None,
+        };
     }
-    let (first, second) = circuit.pair(wire);
-    let a = label_below(words, wire, first);
-    let b = label_below(words, wire, second);
+    let labels = labels_below(circuit, words, wire);
     if !circuit.is_garbled(wire) {
-        return MadeWire::Plain(free_gate(a, b));
+        return MadeWire {
+            label: free_gate(labels),
+            gate: None,
+        };
     }
-    let gate = garble_with(hash, circuit, drawn, a, b, wire, garbled);
-    MadeWire::Gate(gate)
+    let gate = garble_with(hash, circuit, drawn, labels, wire, garbled);
+    MadeWire {
+        label: gate.label,
+        gate: Some(gate.sent),
+    }
 }

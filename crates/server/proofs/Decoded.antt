@@ -2,6 +2,7 @@
 use Rattle.std.proofs.Common.{◌≡◌, ℕ, zero, suc, ◌+◌, ◌*◌, ◌<◌, ◌≤◌, Bool, true, false, cond, not, ◌&&◌, ◌≢◌, List, [], ◌∷◌, ◌++◌, map, length, get_or, is_some, Option, sym, refl, ap, ◌∙◌, subst, inl, inr, arith}
 use Rattle.std.specs.List.{flat_map}
 use Rattle.std.proofs.lemmas.List.{map-append}
+use Rattle.std.proofs.lemmas.Simd.{map-map}
 use Rattle.std.proofs.lemmas.Bool.{cases_eq}
 use Rattle.label.specs.Labels.{Label}
 use Rattle.label.specs.Hashes.{HashFunction, Question, Asked}
@@ -100,10 +101,6 @@ map-where p g h (suc n) alike =
     one : (b : Bool) → (b ≡ true → g n ≡ h n) → map g (cond b (n ∷ []) []) ≡ map h (cond b (n ∷ []) [])
     one true same = λ i. same refl i ∷ []
     one false same = refl
-
-map-map : {X Y : Type 0} (g : X → Y) (h : ℕ → X) (ws : List ℕ) → map g (map h ws) ≡ map (λ w. g (h w)) ws
-map-map g h [] = refl
-map-map g h (w ∷ ws) = ap (λ ys. g (h w) ∷ ys) (map-map g h ws)
 
 module _ (c : Wiring) (F : List ℕ) (f : HashFunction) (ls : List Label) (ws : List ℕ) (marks : HoldMarks c f ls ws) where
   -- The bit read by the mark kept is the output's.

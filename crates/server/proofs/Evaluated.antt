@@ -1,22 +1,26 @@
 -- Evaluation, wire by wire: one step of the loop that keeps the labels met.
-use Rattle.std.proofs.Common.{◌≡◌, ℕ, ◌+◌, ◌*◌, ◌<◌, ◌≤◌, Bool, true, false, cond, List, [], ◌∷◌, ◌++◌, length, sym, refl, ap, ◌∙◌, subst, append_assoc, add-one, arith}
+use Rattle.std.proofs.Common.{◌≡◌, ℕ, ◌+◌, ◌*◌, ◌<◌, ◌≤◌, Bool, true, false, cond, List, [], ◌∷◌, ◌++◌, length, sym, refl, ap, ◌∙◌, subst, add-one, arith}
 use Rattle.std.specs.List.{flat_map}
 use Rattle.std.proofs.lemmas.List.{append-nil}
+use Rattle.std.proofs.lemmas.Grind.{flat_map-append}
 use Rattle.std.proofs.lemmas.Bool.{ltb-true}
 use Rattle.label.specs.Sums.{halves}
 use Rattle.label.specs.Labels.{Label}
 use Rattle.label.specs.Hashes.{HashFunction, Question, Asked}
 use Rattle.label.proofs.Chains.{asked_append}
 use Rattle.wires.specs.Wires.{Wiring, first_at, second_at, class_at, is_input, is_free, is_garbled, wires_where}
+use Rattle.gate.specs.declared.garble.SentGate.{SentGate}
+use Rattle.gate.specs.Classes.{parity_of}
 use Rattle.gate.specs.Sums.{sum_of}
 use Rattle.garbling.specs.Tweaks.{gate_tweak}
-use Rattle.garbling.specs.Garbling.{parity_of, label_in, gate_index}
+use Rattle.garbling.specs.Garbling.{label_in, gate_index}
 use Rattle.garbling.specs.Words.{kept_at, labels_kept, keeping}
 use Rattle.garbling.specs.Steps.{met_with, met_asks}
-use Rattle.garbling.specs.Evaluation.{SentGate, met_from, met_below, gate_met, evaluate_asks_at}
+use Rattle.garbling.specs.Evaluation.{met_from, met_below, gate_met, evaluate_asks_at}
 use Rattle.garbling.proofs.Kept.{kept_more, kept_none}
 use Rattle.form.specs.Read.{gates_in}
-use Rattle.server.specs.Labels.{sent_at, HoldInputs}
+use Rattle.server.specs.Gates.{sent_at}
+use Rattle.server.specs.Labels.{HoldInputs}
 use Rattle.server.proofs.Numbered.{sent_same}
 use Rattle.server.proofs.Rooms.{kept_other}
 
@@ -25,15 +29,11 @@ joined-one : {A : Type 0} (g : ℕ → List A) (b : Bool) (w : ℕ) → flat_map
 joined-one g true w = append-nil (g w)
 joined-one g false w = refl
 
-joined-append : {A : Type 0} (g : ℕ → List A) (xs ys : List ℕ) → flat_map g (xs ++ ys) ≡ flat_map g xs ++ flat_map g ys
-joined-append g [] ys = refl
-joined-append g (x ∷ xs) ys = ap (λ zs. g x ++ zs) (joined-append g xs ys) ∙ sym (append_assoc (g x) (flat_map g xs) (flat_map g ys))
-
 pub joined-more : {A : Type 0} (g : ℕ → List A) (p : ℕ → Bool) (w : ℕ)
     → flat_map g (wires_where p (w + 1)) ≡ flat_map g (wires_where p w) ++ cond (p w) (g w) []
 unfolding wires_where
 joined-more g p w =
-    rw add-one (joined-append g (wires_where p w) (cond (p w) (w ∷ []) []) ∙ ap (λ zs. flat_map g (wires_where p w) ++ zs) (joined-one g (p w) w))
+    rw add-one (flat_map-append g (wires_where p w) (cond (p w) (w ∷ []) []) ∙ ap (λ zs. flat_map g (wires_where p w) ++ zs) (joined-one g (p w) w))
 
 -- Where a test decides, only the part that is taken counts.
 cond_part : {A : Type 0} (b : Bool) (x y z : A) → (b ≡ true → x ≡ y) → cond b x z ≡ cond b y z

@@ -1,4 +1,5 @@
 pub mod LowestWires
+pub mod NumberedWires
 pub mod Numbered
 pub mod Rooms
 pub mod Evaluated

@@ -1,19 +1,19 @@
 -- Gates and marks by their numbers: what stands there, and what counts past the last.
-use Rattle.std.proofs.Common.{◌≡◌, ℕ, ◌+◌, ◌*◌, Bool, true, false, cond, ltb, List, [], ◌∷◌, map, get_or, sym, refl, ap, ◌∙◌, inl, inr, arith}
+use Rattle.std.proofs.Common.{◌≡◌, ℕ, ◌+◌, ◌*◌, Bool, true, false, cond, ltb, List, map, get_or, sym, refl, ap, ◌∙◌, inl, inr, arith}
 use Rattle.std.specs.List.{range_with_len}
 use Rattle.std.proofs.lemmas.List.FromFn.{get_or-map-range_with_len, length-map-range_with_len}
 use Rattle.std.proofs.lemmas.List.{get_or_past}
 use Rattle.std.proofs.lemmas.Bool.{cases_lt, lt-ltb, le-ltb, cond-true, cond-false}
 use Rattle.slices.specs.Little.{short_at}
-use Rattle.label.specs.Sums.{pairs}
 use Rattle.label.specs.Labels.{Label, label_at}
 use Rattle.label.specs.Hashes.{HashFunction}
 use Rattle.gate.specs.declared.views.Parity.{Parity}
+use Rattle.gate.specs.declared.garble.SentGate.{SentGate}
 use Rattle.gate.specs.Gates.{evaluated_gate}
 use Rattle.garbling.specs.Marks.{Mark}
-use Rattle.garbling.specs.Evaluation.{SentGate, no_gate}
+use Rattle.garbling.specs.Evaluation.{no_gate}
 use Rattle.form.specs.Read.{gates_stated, gate_at, gates_in, marks_from}
-use Rattle.server.specs.Labels.{sent_at}
+use Rattle.server.specs.Gates.{blank_gate, sent_at}
 
 -- What is listed by a function of the number.
 counted_at : {X : Type 0} (g : ℕ → X) (n k : ℕ) (d : X) → get_or (map g (range_with_len 0 n)) k d ≡ cond (ltb k n) (g k) d
@@ -32,8 +32,7 @@ mark_read F p p' o k r read place =
 
 -- A gate as it is read serves as the gate that was sent: past the last, both are blank.
 sent_either : (f : HashFunction) (parity : Parity) (b : Bool) (g : SentGate) (x y : Label) (t : ℕ)
-    → evaluated_gate f parity (cond b g.ciphertexts (0 ∷ 0 ∷ 0 ∷ []))
-    (cond b g.controls (pairs.o ∷ pairs.o ∷ pairs.o ∷ pairs.o ∷ pairs.o ∷ [])) x y t
+    → evaluated_gate f parity (cond b g blank_gate).ciphertexts (cond b g blank_gate).controls x y t
     ≡ evaluated_gate f parity (cond b g no_gate).ciphertexts (cond b g no_gate).controls x y t
 sent_either f parity true g x y t = refl
 sent_either f parity false g x y t = refl

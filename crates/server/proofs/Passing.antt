@@ -17,7 +17,8 @@ use Rattle.circuit.specs.Public.{public_byte, public_arrays, PublicOf}
 use Rattle.circuit.proofs.Accepts.{sound_lowest}
 use Rattle.garbling.specs.Marks.{Mark}
 use Rattle.garbling.specs.Garbling.{gate_index}
-use Rattle.garbling.specs.Evaluation.{SentGate, no_gate}
+use Rattle.gate.specs.declared.garble.SentGate.{SentGate}
+use Rattle.garbling.specs.Evaluation.{no_gate}
 use Rattle.form.specs.Controls.{control_word, controls_in}
 use Rattle.form.specs.Layout.{gate_bytes, mark_bytes, form_of, form_length}
 use Rattle.form.specs.Read.{form_wiring, gates_stated, outputs_stated, gate_at, control_word_at}

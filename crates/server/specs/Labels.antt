@@ -5,13 +5,8 @@ use Rattle.label.specs.Hashes.{HashFunction, Asked}
 use Rattle.wires.specs.Wires.{Wiring}
 use Rattle.garbling.specs.Garbling.{label_in}
 use Rattle.garbling.specs.Words.{kept_at, labels_kept}
-use Rattle.garbling.specs.Evaluation.{SentGate, met_of, evaluate_asks}
+use Rattle.garbling.specs.Evaluation.{met_of, evaluate_asks}
 use Rattle.form.specs.Read.{gates_in}
-use Rattle.server.specs.Gates.{ciphertexts_of, controls_of}
-
--- The k-th gate that was sent.
-abbrev pub sent_at : List ℕ → ℕ → SentGate
-sent_at F k = record { ciphertexts = ciphertexts_of F k; controls = controls_of F k }
 
 -- The words hold these labels of the inputs.
 abbrev pub HoldInputs : Wiring → List ℕ → List Label → Type 0

@@ -6,7 +6,8 @@ use Rattle.circuit.specs.Check.{most_outputs}
 use Rattle.circuit.specs.Accepted.{SizesSound, WiresSound}
 use Rattle.garbling.specs.Marks.{Mark}
 use Rattle.garbling.specs.Garbling.{gate_index}
-use Rattle.garbling.specs.Evaluation.{SentGate, no_gate}
+use Rattle.gate.specs.declared.garble.SentGate.{SentGate}
+use Rattle.garbling.specs.Evaluation.{no_gate}
 use Rattle.form.specs.Layout.{form_of}
 use Rattle.form.specs.Back.{FormFits}
 use Rattle.server.specs.Faults.{is_hidden, form_fault}

@@ -11,7 +11,7 @@ use Rattle.server.specs.Lowest.{lowest_where}
 
 -- The sheets by side.
 abbrev pub sheets_of : Sheets → List (List ℕ)
-sheets_of s = s.first.now ∷ s.second.now ∷ []
+sheets_of s = map (λ sheet. sheet.now) s.by_side
 
 abbrev pub sheet_at : List (List ℕ) → ℕ → List ℕ
 sheet_at sheets side = slice_index_or sheets side []

@@ -5,6 +5,7 @@ mod check;
 mod checked;
 mod labels;
 mod outputs;
+mod read;
 mod runs;
 mod sheets;
 

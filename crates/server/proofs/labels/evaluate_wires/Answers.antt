@@ -8,7 +8,7 @@ use Rattle.garbling.specs.Words.{kept_at, labels_kept, keeping}
 use Rattle.garbling.specs.Steps.{met_with}
 use Rattle.garbling.specs.Evaluation.{met_below, evaluate_asks_at}
 use Rattle.form.specs.Read.{gates_in}
-use Rattle.server.specs.Labels.{sent_at}
+use Rattle.server.specs.Gates.{sent_at}
 use Rattle.server.proofs.Evaluated.{met_start, met_step}
 use Rattle.server.proofs.labels.evaluate_wires.Goals as goal
 
@@ -18,13 +18,13 @@ loop-wire-init g c = (
   (refl, omega arith),
   refl,
   λ xs held.
-      met_start g.H.Hash.asks (wiring_of c.args.circuit.now) c.args.form.now.bytes.now (g.H.Hash.function c.args.hash.now) xs
+      met_start g.H.Hash.asks (wiring_of c.args.form.now.circuit) c.args.form.now.bytes.now (g.H.Hash.function c.args.hash.now) xs
       c.args.hash.now c.args.words.now,
 )
 
 pub loop-wire-preserved : goal.loop-wire-preserved
 loop-wire-preserved g c =
-    let circuit = wiring_of c.args.circuit.now in
+    let circuit = wiring_of c.args.form.now.circuit in
     let F = c.args.form.now.bytes.now in
     let f = g.H.Hash.function c.args.hash.now in
     let w = c.loop-wire.wire in
@@ -43,10 +43,10 @@ loop-wire-preserved g c =
 
 pub returns : goal.returns
 returns g c =
-    let circuit = wiring_of c.args.circuit.now in
+    let circuit = wiring_of c.args.form.now.circuit in
     let gates = gates_in c.args.form.now.bytes.now in
     let f = g.H.Hash.function c.args.hash.now in
-    let end : c.loop-wire.wire ≡ c.args.circuit.now.wires = omega arith in
+    let end : c.loop-wire.wire ≡ c.args.form.now.circuit.wires = omega arith in
     record {
       labels = λ xs held. subst (λ k. labels_kept c.loop-wire.words k ≡ met_below circuit f gates xs k) end (c.loop-wire.invariant.2 xs held).0;
       kept = c.loop-wire.invariant.1;

@@ -8,8 +8,8 @@ use Rattle.server.proofs.labels.evaluate_wires.Given as goal
 
 abbrev pub invariant-loop-wire : goal.invariant-loop-wire
 invariant-loop-wire g l =
-    ((l.gate ≡ length (wires_where (is_garbled (wiring_of l.circuit)) l.wire)) × (l.gate ≤ l.wire))
+    ((l.gate ≡ length (wires_where (is_garbled (wiring_of l.form.circuit)) l.wire)) × (l.gate ≤ l.wire))
     × (g.H.Hash.function l.hash ≡ g.H.Hash.function l.initial.hash)
-    × ((xs : List Label) → HoldInputs (wiring_of l.circuit) l.initial.words xs
-    → Met g.H.Hash.asks (wiring_of l.circuit) l.form.bytes.now (g.H.Hash.function l.initial.hash) xs
+    × ((xs : List Label) → HoldInputs (wiring_of l.form.circuit) l.initial.words xs
+    → Met g.H.Hash.asks (wiring_of l.form.circuit) l.form.bytes.now (g.H.Hash.function l.initial.hash) xs
     l.wire l.initial.hash l.hash l.initial.words l.words)

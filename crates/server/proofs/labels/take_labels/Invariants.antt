@@ -7,5 +7,5 @@ use Rattle.server.proofs.labels.take_labels.Given as goal
 
 abbrev pub invariant-loop-wire : goal.invariant-loop-wire
 invariant-loop-wire l =
-    (lowest_where 37 (λ w. not (is_some (own_label (wiring_of l.circuit) (sheets_of l.sheets) w))) l.wire ≡ None)
-    × Taken (wiring_of l.circuit) (sheets_of l.sheets) l.words l.wire
+    (lowest_where 37 (λ w. not (is_some (own_label (wiring_of l.sheets.circuit) (sheets_of l.sheets) w))) l.wire ≡ None)
+    × Taken (wiring_of l.sheets.circuit) (sheets_of l.sheets) l.words l.wire

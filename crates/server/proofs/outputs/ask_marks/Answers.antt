@@ -40,16 +40,11 @@ loop-wire-preserved g c =
       )
     ]
 
-pub returns : goal.returns
-returns g c =
+pub returns-clause-asked : goal.returns-clause-asked
+returns-clause-asked g c =
     let circuit = wiring_of c.args.circuit.now in
     let n = c.args.circuit.now.wires in
     let ls = labels_kept c.args.words.now n in
     let end : c.loop-wire.wire ≡ n = omega arith in
-    record {
-      marks = λ w below output. c.loop-wire.invariant.1.0 w below (omega arith) output;
-      kept = c.loop-wire.invariant.0;
-      asked =
-          subst (λ k. Asked g.H.Hash.asks (flat_map (λ w. mark_questions n w (label_in ls w)) (wires_where (is_output circuit) k)) c.args.hash.now c.loop-wire.hash)
-          end c.loop-wire.invariant.1.2;
-    }
+    subst (λ k. Asked g.H.Hash.asks (flat_map (λ w. mark_questions n w (label_in ls w)) (wires_where (is_output circuit) k)) c.args.hash.now c.loop-wire.hash)
+    end c.loop-wire.invariant.1.2

@@ -7,10 +7,10 @@ use Rattle.server.proofs.outputs.read_outputs.Goals as goal
 
 pub returns : goal.returns
 returns g c =
-    let circuit = wiring_of c.args.circuit.now in
+    let circuit = wiring_of c.args.form.now.circuit in
     let F = c.args.form.now.bytes.now in
     let f = g.H.Hash.function c.args.hash.now in
-    let ls = labels_kept c.args.words.now c.args.circuit.now.wires in
+    let ls = labels_kept c.args.words.now c.args.form.now.circuit.wires in
     let ws = c.ask_marks.new.words in
     let marks = c.ask_marks.ensures.marks in
     let r = c.decide_outputs.result in

@@ -13,15 +13,12 @@ loop-wire-init c = ((refl, refl), omega arith)
 
 pub bounds-outputs-from : goal.bounds-outputs-from
 bounds-outputs-from c =
-    let room = count_below (is_output (wiring_of c.args.circuit.now)) c.loop-wire.wire c.args.circuit.now.wires (omega arith) (sym c.if-is_output.ensures) in
+    let room = count_below (is_output (wiring_of c.args.form.now.circuit)) c.loop-wire.wire c.args.form.now.circuit.wires (omega arith) (sym c.if-is_output.ensures) in
     omega (arith, c.loop-wire.invariant.0.0, c.from.ensures)
-
-pub overflow_add-next : goal.overflow_add-next
-overflow_add-next c = omega (arith, c.loop-wire.invariant.1)
 
 pub loop-wire-preserved : goal.loop-wire-preserved
 loop-wire-preserved c =
-    let circuit = wiring_of c.args.circuit.now in
+    let circuit = wiring_of c.args.form.now.circuit in
     let F = c.args.form.now.bytes.now in
     let ws = c.args.words.now in
     let p = is_output circuit in
@@ -29,7 +26,7 @@ loop-wire-preserved c =
     let f : ℕ → ℕ = λ w. bit_byte (kept_bit circuit F ws w (output_index circuit w)) in
     elim c.if-is_output.branch [
       | then-is_output w ↦
-          let room = count_below p wire c.args.circuit.now.wires (omega arith) (sym w.if-is_output.ensures) in
+          let room = count_below p wire c.args.form.now.circuit.wires (omega arith) (sym w.if-is_output.ensures) in
           let byte = w.output_byte.ensures ∙ ap (λ k. bit_byte (kept_bit circuit F ws wire k)) c.loop-wire.invariant.0.0 in (
             picked_taken p f wire c.loop-wire.next _ c.loop-wire.outputs _ w.output_byte.result c.loop-wire.invariant.0
                 (omega (arith, c.loop-wire.invariant.0.0)) (sym w.if-is_output.ensures) byte w.next-is (w.outputs-is ∙ ap (λ i. set c.loop-wire.outputs i w.output_byte.result) w.from.ensures),
@@ -44,7 +41,7 @@ loop-wire-preserved c =
 
 pub returns : goal.returns
 returns c =
-    let circuit = wiring_of c.args.circuit.now in
+    let circuit = wiring_of c.args.form.now.circuit in
     let F = c.args.form.now.bytes.now in
     picked_done (is_output circuit) (λ w. bit_byte (kept_bit circuit F c.args.words.now w (output_index circuit w))) c.loop-wire.wire _ c.loop-wire.next c.loop-wire.outputs
     c.loop-wire.invariant.0 (omega arith) (c.loop-wire.auto.outputs ∙ c.requires)

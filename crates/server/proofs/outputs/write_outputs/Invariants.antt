@@ -8,7 +8,7 @@ use Rattle.server.proofs.outputs.write_outputs.Given as goal
 
 abbrev pub invariant-loop-wire : goal.invariant-loop-wire
 invariant-loop-wire l =
-    Picked (is_output (wiring_of l.circuit))
-    (λ w. bit_byte (kept_bit (wiring_of l.circuit) l.form.bytes.now l.words w (output_index (wiring_of l.circuit) w)))
+    Picked (is_output (wiring_of l.form.circuit))
+    (λ w. bit_byte (kept_bit (wiring_of l.form.circuit) l.form.bytes.now l.words w (output_index (wiring_of l.form.circuit) w)))
     l.wire l.next l.outputs
     × (l.next ≤ l.wire)

@@ -9,11 +9,11 @@ loop-wire-init c = lowest_start 15 _
 
 pub returns-then-not-marks_sound : goal.returns-then-not-marks_sound
 returns-then-not-marks_sound c =
-    let wrong : ℕ → Bool = λ w. not (marks_sound (wiring_of c.args.circuit.now) (sheets_of c.args.self.now) w) in
-    lowest_found 15 wrong c.loop-wire.wire c.args.circuit.now.inputs _ (omega arith) c.loop-wire.invariant
+    let wrong : ℕ → Bool = λ w. not (marks_sound (wiring_of c.args.self.now.circuit) (sheets_of c.args.self.now) w) in
+    lowest_found 15 wrong c.loop-wire.wire c.args.self.now.circuit.inputs _ (omega arith) c.loop-wire.invariant
     (ap not (sym c.if-not-marks_sound.ensures)) c.from.ensures
 
 pub loop-wire-preserved : goal.loop-wire-preserved
 loop-wire-preserved c =
-    let wrong : ℕ → Bool = λ w. not (marks_sound (wiring_of c.args.circuit.now) (sheets_of c.args.self.now) w) in
+    let wrong : ℕ → Bool = λ w. not (marks_sound (wiring_of c.args.self.now.circuit) (sheets_of c.args.self.now) w) in
     lowest_passed 15 wrong c.loop-wire.wire c.loop-wire.invariant (ap not (sym c.if-not-marks_sound.ensures))
