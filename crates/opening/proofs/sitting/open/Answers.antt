@@ -1,4 +1,4 @@
-use Rattle.std.proofs.Common.{ℕ, List, arith}
+use Rattle.std.proofs.Common.{ℕ, List, replicate, ap, ◌∙◌, arith}
 use Rattle.label.specs.Hashes.{HashFunction}
 use Rattle.wires.specs.Wires.{Wiring}
 use Rattle.circuit.specs.Check.{table_wiring}
@@ -12,7 +12,7 @@ returns g c =
     let circuit : Wiring = table_wiring c.args.table.now in
     let T : List ℕ = drawn_for circuit c.args.tape.now.bytes.now c.args.tape.now.place in
     let f : HashFunction = g.H.Hash.function c.args.hash.now in
-    let opened = c.open_wiped.ensures in
+    let opened = c.open_lent-opened.ensures in
     let byte : (i : ℕ) → _ = c.type_inv.table in
     record {
       fault = opened.fault;
@@ -23,10 +23,10 @@ returns g c =
       store = opened.store;
       sheet = opened.sheet;
       ledger = opened.ledger;
-      work = opened.work;
+      work = c.fill.ensures.after (λ y same. same) ∙ ap (λ n. replicate n 0) opened.words;
       kept = opened.kept;
       asked = opened.asked;
-      shows = shows_public c.open_wiped.result circuit T f c.open_wiped.new.form (zeros c.args.form.now) c.args.form.now
+      shows = shows_public c.open_lent-opened.result circuit T f c.open_lent-opened.new.form (zeros c.args.form.now) c.args.form.now
           (omega (arith, byte 0, byte 1)) (omega (arith, byte 2, byte 3)) opened.form;
       alike = open_alike;
       colours = colours_differ;
