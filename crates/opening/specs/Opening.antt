@@ -38,6 +38,10 @@ opened_store c T f = store_of (offset_in T) (input_falses c T f)
 unfoldable pub open_asks : Wiring → List ℕ → HashFunction → List Question
 open_asks c T f = garble_asks c T f ++ marks_ask c (offset_in T) (falses_of c T f)
 
+-- The lengths of these lent buffers.
+abbrev pub room_of : List ℕ → List ℕ → List ℕ → List ℕ → Room
+room_of form store sheet work = record { form = length form; store = length store; sheet = length sheet; work = length work }
+
 -- The first buffer of another length than wanted, for n wires, m inputs, q garbled gates and o outputs.
 abbrev pub room_fault_for : ℕ → ℕ → ℕ → ℕ → Room → Option Fault
 room_fault_for n m q o room =

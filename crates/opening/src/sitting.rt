@@ -10,7 +10,7 @@ ghost use Rattle.form.specs.Read.{form_wiring};
 ghost use Rattle.ledger.specs.Ledger.{empty_ledger, opened_ledger};
 ghost use Rattle.ledger.specs.Sheet.{blank_sheet};
 ghost use Rattle.garbling.specs.Tape.{need_of, drawn_for};
-ghost use Rattle.opening.specs.Opening.{opened_form, opened_store, tape_fault, equal_output, unless_equal, marks_fault, open_asks, left, zeros, asked_by, open_fault};
+ghost use Rattle.opening.specs.Opening.{opened_form, opened_store, room_of, tape_fault, equal_output, unless_equal, marks_fault, open_asks, left, zeros, asked_by, open_fault};
 ghost use Rattle.opening.specs.Ready.{Ready};
 ghost use Rattle.opening.specs.Laws.{Alike, ColoursDiffer};
 
@@ -22,6 +22,8 @@ use garbling::{draw_offset, tape_need};
 use label::Hash;
 use ledger::Ledger;
 use refusal::Refusal;
+
+// The five lent buffers stand one by one down to here, since a struct of them would be taken apart again at each step and clause.
 
 // Fills form, store, sheet and ledger from the drawn bytes; where an output has equal marks, all four are blank, and the answer is that output.
 fn fill_buffers<H: Hash>(
@@ -35,7 +37,7 @@ fn fill_buffers<H: Hash>(
     ledger: &mut Ledger,
     work: &mut [u64],
 ) -> Option<u16>
-    requires room { Ready table.now (record { form = length form.old; store = length store.old; sheet = length sheet.old; work = length work.old }) }
+    requires room { Ready table.now (room_of form.old store.old sheet.old work.old) }
     ensures equal { result ≡ equal_output (wiring_of table.now.circuit) drawn.now (H.function hash.old) }
     ensures form { form.new ≡ unless_equal result (opened_form (wiring_of table.now.circuit) drawn.now (H.function hash.old)) (zeros form.old) }
     ensures store { store.new ≡ unless_equal result (opened_store (wiring_of table.now.circuit) drawn.now (H.function hash.old)) (zeros store.old) }
@@ -74,7 +76,7 @@ fn open_guarded<H: Hash>(
     ledger: &mut Ledger,
     work: &mut [u64],
 ) -> Result<(), Refusal>
-    requires room { Ready table.now (record { form = length form.old; store = length store.old; sheet = length sheet.old; work = length work.old }) }
+    requires room { Ready table.now (room_of form.old store.old sheet.old work.old) }
     ensures fault { Finds result (or_else (tape_fault (wiring_of table.now.circuit) tape.old.bytes.now tape.old.place) (marks_fault (equal_output (wiring_of table.now.circuit) (drawn_for (wiring_of table.now.circuit) tape.old.bytes.now tape.old.place) (H.function hash.old)))) }
     ensures place { tape.new.place ≡ left result (tape.old.place + need_of (wiring_of table.now.circuit)) tape.old.place tape.old.place }
     ensures tape { tape.new.bytes ≡ tape.old.bytes }
@@ -134,7 +136,7 @@ fn open_lent<H: Hash>(
     ledger: &mut Ledger,
     work: &mut [u64],
 ) -> Result<OpenSitting, Refusal>
-    ensures fault { Finds result (open_fault side table.now (record { form = length form.old; store = length store.old; sheet = length sheet.old; work = length work.old }) tape.old.bytes.now tape.old.place (H.function hash.old)) }
+    ensures fault { Finds result (open_fault side table.now (room_of form.old store.old sheet.old work.old) tape.old.bytes.now tape.old.place (H.function hash.old)) }
     ensures sitting { IfOk result (λ s. (s.side ≡ side) × (s.inputs ≡ (table_wiring table.now).inputs)) }
     ensures place { tape.new.place ≡ left result (tape.old.place + need_of (table_wiring table.now)) tape.old.place tape.old.place }
     ensures tape { tape.new.bytes ≡ tape.old.bytes }
@@ -173,7 +175,7 @@ pub fn open<H: Hash>(
     ledger: &mut Ledger,
     work: &mut [u64],
 ) -> Result<OpenSitting, Refusal>
-    ensures fault { Finds result (open_fault side table.now (record { form = length form.old; store = length store.old; sheet = length sheet.old; work = length work.old }) tape.old.bytes.now tape.old.place (H.function hash.old)) }
+    ensures fault { Finds result (open_fault side table.now (room_of form.old store.old sheet.old work.old) tape.old.bytes.now tape.old.place (H.function hash.old)) }
     ensures sitting { IfOk result (λ s. (s.side ≡ side) × (s.inputs ≡ (table_wiring table.now).inputs)) }
     ensures place { tape.new.place ≡ left result (tape.old.place + need_of (table_wiring table.now)) tape.old.place tape.old.place }
     ensures tape { tape.new.bytes ≡ tape.old.bytes }
