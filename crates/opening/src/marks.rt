@@ -79,7 +79,7 @@ pub(crate) fn mark_outputs<H: Hash>(
     ensures kept { H.function hash.new ≡ H.function hash.old }
     ensures asked { Asked H.asks (marks_ask (wiring_of table.now.circuit) delta (labels_kept work.now table.now.circuit.wires)) hash.old hash.new }
 {
-    // tried: `filter(..).enumerate()` over the outputs; its proof step is not made in a generic function
+    // tried: `(0..wires).filter(..).enumerate()`; the proof did not close, since no invariant stands over such a loop in a generic function
     let mut so_far = Marked {
         next: 0,
         equal: None,

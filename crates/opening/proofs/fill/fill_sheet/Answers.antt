@@ -1,4 +1,4 @@
-use Rattle.std.proofs.Common.{◌≡◌, ℕ, suc, ◌*◌, List, ◌++◌, length, drop, replicate, ap, ◌∙◌, arith}
+use Rattle.std.proofs.Common.{◌≡◌, ℕ, suc, ◌*◌, ◌++◌, length, drop, replicate, ap, ◌∙◌, arith}
 use Rattle.slices.specs.Little.{short_bytes}
 use Rattle.opening.proofs.fill.fill_sheet.Goals as goal
 

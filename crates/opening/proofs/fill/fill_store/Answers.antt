@@ -1,6 +1,5 @@
 use Rattle.std.proofs.Common.{◌≡◌, ℕ, ◌+◌, ◌-◌, ◌*◌, List, ◌++◌, length, take, drop, refl, ap, ◌∙◌, arith, length-append, length-drop}
 use Rattle.std.proofs.lemmas.List.{length-take-le}
-use Rattle.label.specs.Labels.{Label}
 use Rattle.ledger.specs.Store.{label_words}
 use Rattle.opening.proofs.Regions.{front_and_rest}
 use Rattle.opening.proofs.fill.fill_store.Goals as goal
