@@ -1,11 +1,11 @@
-use Rattle.std.proofs.Common.{◌≡◌, ℕ, ◌+◌, ◌-◌, ◌*◌, ◌≤◌, List, ◌++◌, length, take, drop, refl, ap, ◌∙◌, arith, length-drop}
+use Rattle.std.proofs.Common.{◌≡◌, ℕ, ◌+◌, ◌-◌, ◌*◌, ◌≤◌, List, ◌++◌, length, take, drop, sym, refl, ap, ◌∙◌, arith, length-drop}
 use borrow.Rule.Slice.PartMut.{put_mid}
 use Rattle.std.proofs.lemmas.List.FromFn.{length-map-range_with_len}
 use Rattle.std.proofs.lemmas.List.{length-take-le}
 use Rattle.wires.specs.declared.Circuit.{Circuit}
 use Rattle.wires.specs.Wires.{Wiring}
 use Rattle.wires.specs.Read.{wiring_of}
-use Rattle.circuit.specs.Public.{public_byte, public_arrays, public_first}
+use Rattle.circuit.specs.Public.{public_byte, public_arrays}
 use Rattle.form.specs.Layout.{size_bytes}
 use Rattle.opening.proofs.Regions.{length_part, front_more}
 use Rattle.opening.proofs.fill.write_public.Goals as goal
@@ -25,7 +25,8 @@ returns c =
     (λ i. length (take (part i) (drop 8 (sized i ++ rest))))
     ∙ length-take-le (5 * n) (drop 8 (sizes ++ rest)) (let left = length-drop 8 (sizes ++ rest) in let room = c.requires in omega (arith, left, long, room)) in
     let arrays : c.public_arrays.new.arrays ≡ public_arrays circuit =
-    c.public_arrays.ensures ∙ (λ i. public_first (wiring_of (c.circuit-circuit.ensures i)) (wide i)) in
+    c.public_arrays.ensures.whole (wide ∙ ap (λ (k : Circuit). 5 * k.wires) (sym c.circuit-circuit.ensures))
+    ∙ ap (λ (k : Circuit). public_arrays (wiring_of k)) c.circuit-circuit.ensures in
     let count : length (public_arrays circuit) ≡ 5 * n = length-map-range_with_len (public_byte circuit) 0 (5 * n) in
     let written : _ ≡ put_mid 8 (5 * n) (sizes ++ rest) (public_arrays circuit) =
     λ i. put_mid 8 (part i) (sized i ++ rest) (arrays i) in
