@@ -8,10 +8,10 @@ use Rattle.label.specs.Labels.{label_bytes}
 use Rattle.label.specs.Hashes.{HashFunction}
 use Rattle.wires.specs.Wires.{Wiring, garbled_wires, output_wires}
 use Rattle.circuit.specs.Public.{public_arrays}
+use Rattle.gate.specs.declared.garble.SentGate.{SentGate}
 use Rattle.garbling.specs.Tape.{offset_in}
 use Rattle.garbling.specs.Garbling.{falses_of}
 use Rattle.garbling.specs.Marks.{Mark, mark_at}
-use Rattle.garbling.specs.Evaluation.{SentGate}
 use Rattle.form.specs.Layout.{size_bytes, ciphertext_bytes, control_bytes, gate_bytes, mark_bytes, form_length}
 use Rattle.opening.specs.Opening.{gates_sent, marks_sent, opened_form}
 use Rattle.slices.proofs.Widths.{length-joined}

@@ -1,7 +1,7 @@
 -- Parts of a buffer written one after the other: how far it is filled from its front.
-use Rattle.std.proofs.Common.{◌≡◌, ℕ, suc, ◌+◌, ◌-◌, ◌≤◌, List, [], ◌∷◌, ◌++◌, length, take, drop, set, replicate, sym, ap, ◌∙◌, arith, length-drop}
+use Rattle.std.proofs.Common.{◌≡◌, ℕ, ◌+◌, ◌-◌, ◌≤◌, List, ◌++◌, length, take, drop, sym, ap, ◌∙◌, arith, length-drop}
 use borrow.Rule.Slice.PartMut.{put_mid, same_len_mid}
-use Rattle.std.proofs.lemmas.List.{append-nil, append_assoc, take_all, drop_all, length-take-le}
+use Rattle.std.proofs.lemmas.List.{append_assoc, take_all, length-take-le}
 use Rattle.std.proofs.lemmas.Slice.{take-put_mid}
 
 -- A part written leaves the length.
@@ -19,13 +19,12 @@ front_more a k xs ys front so_far room long =
 pub front_all : {X : Type 0} (n : ℕ) (xs front : List X) → take n xs ≡ front → length xs ≤ n → xs ≡ front
 front_all n xs front so_far all = sym (take_all n xs all) ∙ so_far
 
--- Two items in front, and the rest as a part.
-pub two_and_rest : {X : Type 0} (xs ys : List X) (a b : X) → 2 ≤ length xs
-    → (let zs : List X = set (set xs 0 a) 1 b in put_mid 2 (length zs - 2) zs ys) ≡ a ∷ b ∷ ys
-two_and_rest [] ys a b long = absurd (omega arith)
-two_and_rest (_ ∷ []) ys a b long = absurd (omega arith)
-two_and_rest (_ ∷ _ ∷ xs) ys a b long =
-    ap (λ r. a ∷ b ∷ (ys ++ r)) (drop_all _ xs (omega arith)) ∙ ap (λ r. a ∷ b ∷ r) (append-nil ys)
+-- A part written after the front, up to the end.
+pub front_and_rest : {X : Type 0} (n k : ℕ) (zs front rest : List X) → take n zs ≡ front → n ≤ length zs → k ≡ length zs - n → length rest ≡ k
+    → put_mid n k zs rest ≡ front ++ rest
+front_and_rest n k zs front rest so_far room all long =
+    front_all (n + k) _ _ (front_more n k zs rest front so_far room long)
+    (let same = length_part n k zs rest (omega (arith, room, all)) long in omega (arith, same, room, all))
 
 -- After the front two parts, which fill the rest.
 pub three_parts : {X : Type 0} (a k k' l' : ℕ) (P G M front : List X) → take a P ≡ front → length P ≡ a + length G + length M
@@ -41,7 +40,3 @@ three_parts a k k' l' P G M front so_far whole wide wide' rest =
     let all : length (put_mid (a + k) l' (put_mid a k' P G) M) ≡ length P =
     length_part (a + k) l' (put_mid a k' P G) M (omega (arith, one, whole, wide, last)) last ∙ one in
     front_all (a + k + l') _ _ three (omega (arith, all, whole, wide, last)) ∙ append_assoc front G M
-
--- Two items set in front of a list of one item only.
-pub two_set : {X : Type 0} (n k : ℕ) (a b x : X) → n ≡ suc (suc k) → set (set (replicate n x) 0 a) 1 b ≡ a ∷ b ∷ replicate k x
-two_set n k a b x wide = ap (λ l. set (set (replicate l x) 0 a) 1 b) wide

@@ -7,8 +7,9 @@ use Rattle.label.specs.Labels.{Label}
 use Rattle.label.specs.Hashes.{HashFunction, Question, Asked}
 use Rattle.label.proofs.Chains.{asked_append}
 use Rattle.wires.specs.Wires.{Wiring, is_garbled, wires_where, garbled_wires}
+use Rattle.gate.specs.declared.garble.GarbledGate.{GarbledGate}
+use Rattle.gate.specs.declared.garble.SentGate.{SentGate}
 use Rattle.garbling.specs.Garbling.{gate_index, gate_from, false_from, falses_below, gate_at, garble_asks_at}
-use Rattle.garbling.specs.Evaluation.{SentGate, sent}
 use Rattle.garbling.specs.Words.{labels_kept}
 use Rattle.garbling.specs.Steps.{made_asks}
 use Rattle.garbling.proofs.Kept.{kept_none}
@@ -32,6 +33,9 @@ pub joined-append : {I X : Type 0} (h : I → List X) (is : List I) (b : Bool) (
     → flat_map h (is ++ cond b (i ∷ []) []) ≡ flat_map h is ++ cond b (h i) []
 joined-append h is true i = sym (flat_map_more h [] is i)
 joined-append h is false i = ap (flat_map h) (append-nil is) ∙ sym (append-nil (flat_map h is))
+
+abbrev sent : GarbledGate → SentGate
+sent g = g.sent
 
 module _ (c : Wiring) (T : List ℕ) (f : HashFunction) where
   -- The gates to send, and the questions asked, of the wires below w.

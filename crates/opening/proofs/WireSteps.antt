@@ -1,31 +1,31 @@
 -- What a wire that was made tells: whether it is garbled, its false label, and how the loop over the wires goes on.
-use Rattle.std.proofs.Common.{◌≡◌, ℕ, ◌+◌, ◌*◌, ◌<◌, Bool, true, false, cond, ltb, List, [], ◌∷◌, ◌++◌, length, set, sym, refl, ap, ◌∙◌, subst, arith, length-set}
+use Rattle.std.proofs.Common.{◌≡◌, ℕ, ◌+◌, ◌*◌, ◌<◌, Bool, true, false, cond, ltb, List, [], ◌∷◌, ◌++◌, length, set, Some, None, sym, refl, ap, ◌∙◌, subst, arith, length-set}
+use Rattle.std.specs.Option.{is_some}
 use Rattle.std.proofs.lemmas.List.{append-nil}
 use Rattle.std.proofs.lemmas.Bool.{cond-true, cond-false}
 use Rattle.label.specs.Labels.{Label}
 use Rattle.label.specs.Hashes.{HashFunction}
+use Rattle.wires.specs.declared.Circuit.{Circuit}
+use Rattle.wires.specs.Read.{wiring_of}
 use Rattle.wires.specs.Wires.{Wiring, is_garbled, wires_where}
 use Rattle.wires.proofs.Scans.{count_more, count_below}
 use Rattle.gate.specs.declared.garble.GarbledGate.{GarbledGate}
+use Rattle.gate.specs.declared.garble.SentGate.{SentGate}
 use Rattle.garbling.specs.declared.garble.MadeWire.{MadeWire}
-use Rattle.garbling.specs.declared.garble.MadeWire.TheVariants.{Gate, Plain}
 use Rattle.garbling.specs.Garbling.{gate_index, gate_with, gate_from, false_from}
 use Rattle.garbling.specs.Words.{labels_kept, keeping}
-use Rattle.garbling.specs.Steps.{made_from, made_label}
+use Rattle.garbling.specs.Steps.{made_gate, made_label, made_from}
 use Rattle.garbling.proofs.Kept.{kept_more}
 use Rattle.garbling.proofs.Made.{made_label_lem}
 
-abbrev is_gate : MadeWire → Bool
-is_gate (Plain l) = false
-is_gate (Gate g) = true
+-- What was made of a circuit's wire, where the circuit is read from another place.
+pub made_same : (T : List ℕ) (f : HashFunction) (below : List Label) (w k : ℕ) (m : MadeWire) (c c' : Circuit) → c ≡ c'
+    → m ≡ made_from (wiring_of c) T f below w k → m ≡ made_from (wiring_of c') T f below w k
+made_same T f below w k m c c' same made = made ∙ ap (λ (d : Circuit). made_from (wiring_of d) T f below w k) same
 
-abbrev gate_or : GarbledGate → MadeWire → GarbledGate
-gate_or d (Plain l) = d
-gate_or d (Gate g) = g
-
-kind_told : (b : Bool) (g : GarbledGate) (l : Label) → is_gate (cond b (Gate g) (Plain l)) ≡ b
-kind_told true g l = refl
-kind_told false g l = refl
+gate_told : (b : Bool) (g : GarbledGate) (l : Label) → is_some (cond b (made_gate g) (made_label l)).gate ≡ b
+gate_told true g l = refl
+gate_told false g l = refl
 
 -- Keeping a label leaves the number of words.
 pub length-kept : (ws : List ℕ) (w : ℕ) (l : Label) → length (keeping ws w l) ≡ length ws
@@ -39,24 +39,27 @@ module _ (c : Wiring) (T : List ℕ) (f : HashFunction) (ws : List ℕ) (w k : �
   abbrev below : List Label
   below = labels_kept ws w
 
-  -- A label alone is made of a wire that is not garbled, a gate of one that is.
-  pub not_garbled : (l : Label) → Plain l ≡ made_from c T f below w k → is_garbled c w ≡ false
-  not_garbled l made = sym (ap is_gate made ∙ kind_told (is_garbled c w) _ _)
+  -- A gate is made of a wire that is garbled, and of no other.
+  pub not_garbled : (m : MadeWire) → m ≡ made_from c T f below w k → m.gate ≡ None → is_garbled c w ≡ false
+  not_garbled m made none = sym (ap is_some (sym none) ∙ ap (λ (n : MadeWire). is_some n.gate) made ∙ gate_told (is_garbled c w) _ _)
 
-  pub is_garbled_lem : (g : GarbledGate) → Gate g ≡ made_from c T f below w k → is_garbled c w ≡ true
-  is_garbled_lem g made = sym (ap is_gate made ∙ kind_told (is_garbled c w) _ _)
+  pub is_garbled_lem : (m : MadeWire) (s : SentGate) → m ≡ made_from c T f below w k → m.gate ≡ Some s → is_garbled c w ≡ true
+  is_garbled_lem m s made some = sym (ap is_some (sym some) ∙ ap (λ (n : MadeWire). is_some n.gate) made ∙ gate_told (is_garbled c w) _ _)
 
-  -- The gate that was made.
-  pub gate_is : (g : GarbledGate) → Gate g ≡ made_from c T f below w k → g ≡ gate_from c T f below w
-  gate_is g made =
-      ap (gate_or g) (made ∙ cond-true _ _ _ (is_garbled_lem g made)) ∙ ap (gate_with c T f below w) index
+  -- What is sent of it.
+  pub gate_is : (m : MadeWire) (s : SentGate) → m ≡ made_from c T f below w k → m.gate ≡ Some s → s ≡ (gate_from c T f below w).sent
+  gate_is m s made some =
+      let same : Some s ≡ Some (gate_with c T f below w k).sent =
+      sym some ∙ ap (λ (n : MadeWire). n.gate) (made ∙ cond-true _ _ _ (is_garbled_lem m s made some)) in
+      let one : s ≡ (gate_with c T f below w k).sent = cc in
+      one ∙ ap (λ n. (gate_with c T f below w n).sent) index
 
   -- The label kept for it is the wire's false label.
   pub label_kept : (m : MadeWire) → m ≡ made_from c T f below w k → 2 * w + 1 < length ws
-      → labels_kept (keeping ws w (made_label m)) (w + 1) ≡ below ++ (false_from c T f below w ∷ [])
+      → labels_kept (keeping ws w m.label) (w + 1) ≡ below ++ (false_from c T f below w ∷ [])
   label_kept m made room =
-      kept_more ws w (made_label m) room
-      ∙ ap (λ l. below ++ (l ∷ [])) (ap made_label (made ∙ ap (made_from c T f below w) index) ∙ made_label_lem c T f below w)
+      kept_more ws w m.label room
+      ∙ ap (λ l. below ++ (l ∷ [])) (ap (λ (n : MadeWire). n.label) (made ∙ ap (made_from c T f below w) index) ∙ made_label_lem c T f below w)
 
 -- The wires that a test picks, counted: one more or not, and each has its place among all.
 module _ (p : ℕ → Bool) (w k : ℕ) (index : k ≡ length (wires_where p w)) where

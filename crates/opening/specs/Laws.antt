@@ -6,7 +6,8 @@ use Rattle.label.specs.Hashes.{HashFunction}
 use Rattle.circuit.specs.Check.{sides, table_wiring}
 use Rattle.gate.specs.Sums.{shifted}
 use Rattle.garbling.specs.Tape.{offset_in, need_of, drawn_for}
-use Rattle.opening.specs.Opening.{Room, opened_form, opened_store, open_fault}
+use Rattle.opening.specs.declared.room.Room.{Room}
+use Rattle.opening.specs.Opening.{opened_form, opened_store, open_fault}
 
 -- A done opening, as one side, of a table, a tape at a place and a hash function: what form, store and place it leaves.
 pub record Opened (side : ℕ) (table tape : List ℕ) (place : ℕ) (f : HashFunction) (form store : List ℕ) (after : ℕ) : Type 0 where

@@ -7,17 +7,19 @@ use Rattle.label.specs.Labels.{Label}
 use Rattle.label.specs.Hashes.{HashFunction, Question}
 use Rattle.wires.specs.Wires.{Wiring, garbled_wires, output_wires}
 use Rattle.circuit.specs.Check.{Fault, unless, or_else, sides, table_wiring, table_fault}
+use Rattle.gate.specs.declared.garble.GarbledGate.{GarbledGate}
+use Rattle.gate.specs.declared.garble.SentGate.{SentGate}
 use Rattle.garbling.specs.Tape.{need_of, drawn_for, offset_in}
 use Rattle.garbling.specs.Garbling.{falses_of, gates_of, garble_asks}
 use Rattle.garbling.specs.Marks.{Mark, marks_of, marks_ask, equal_below, first_of}
-use Rattle.garbling.specs.Evaluation.{SentGate, sent}
 use Rattle.form.specs.Layout.{form_of, form_length}
 use Rattle.ledger.specs.Store.{store_of, store_length}
 use Rattle.ledger.specs.Sheet.{sheet_length}
+use Rattle.opening.specs.declared.room.Room.{Room}
 
 -- What a done opening sends, from the drawn bytes T and the hash function f: the garbled gates, and the marks for one bit at all outputs.
 abbrev pub gates_sent : Wiring → List ℕ → HashFunction → List SentGate
-gates_sent c T f = map sent (gates_of c T f)
+gates_sent c T f = map (λ (g : GarbledGate). g.sent) (gates_of c T f)
 
 abbrev pub marks_sent : Wiring → List ℕ → HashFunction → Bool → List Mark
 marks_sent c T f b = marks_of c f (offset_in T) (falses_of c T f) b
@@ -36,12 +38,9 @@ opened_store c T f = store_of (offset_in T) (input_falses c T f)
 unfoldable pub open_asks : Wiring → List ℕ → HashFunction → List Question
 open_asks c T f = garble_asks c T f ++ marks_ask c (offset_in T) (falses_of c T f)
 
--- The lengths of the lent buffers.
-pub record Room : Type 0 where
-  pub form : ℕ
-  pub store : ℕ
-  pub sheet : ℕ
-  pub work : ℕ
+-- The lengths of these lent buffers.
+abbrev pub room_of : List ℕ → List ℕ → List ℕ → List ℕ → Room
+room_of form store sheet work = record { form = length form; store = length store; sheet = length sheet; work = length work }
 
 -- The first buffer of another length than wanted, for n wires, m inputs, q garbled gates and o outputs.
 abbrev pub room_fault_for : ℕ → ℕ → ℕ → ℕ → Room → Option Fault

@@ -1,14 +1,23 @@
-// Two rows of items in one buffer: the first row from its start, the second from a base on, both growing item by item.
+// Two rows of items in one buffer, with room for as many items in each: the second row stands after all of the first.
 
-ghost use Rattle.std.specs.Prelude.{◌≡◌, ℕ, ◌+◌, ◌-◌, ◌≤◌, ◌++◌, length, take, drop};
+ghost use Rattle.std.specs.Prelude.{◌≡◌, ◌+◌, ◌*◌, ◌<◌, ◌++◌, length, take, drop};
 
-// Writes an item of either row; the second row begins past the first item's end.
-pub(crate) fn write_items(bytes: &mut [u8], at: usize, first: &[u8], later: usize, second: &[u8])
-    requires { (at + length first.now ≤ later) × (later + length second.now ≤ length bytes.old) }
-    ensures first { take (at + length first.now) bytes.new ≡ take at bytes.old ++ first.now }
-    ensures second { (base : ℕ) → at + length first.now ≤ base → base ≤ later → take (later - base + length second.now) (drop base bytes.new) ≡ take (later - base) (drop base bytes.old) ++ second.now }
-    ensures len { length bytes.new ≡ length bytes.old }
+// Writes the next item of both rows.
+pub(crate) fn write_item<const A: usize, const B: usize>(
+    rows: &mut [u8],
+    count: u16,
+    next: u16,
+    first: [u8; A],
+    second: [u8; B],
+)
+    requires place { next < count }
+    requires bytes { length rows.old ≡ (A + B) * count }
+    ensures first { take (A * next + A) rows.new ≡ take (A * next) rows.old ++ first.entry }
+    ensures second { take (B * next + B) (drop (A * count) rows.new) ≡ take (B * next) (drop (A * count) rows.old) ++ second.entry }
+    ensures len { length rows.new ≡ length rows.old }
 {
-    bytes[at..at + first.len()].copy_from_slice(first);
-    bytes[later..later + second.len()].copy_from_slice(second);
+    let at = A * usize::from(next);
+    let later = A * usize::from(count) + B * usize::from(next);
+    rows[at..at + A].copy_from_slice(&first);
+    rows[later..later + B].copy_from_slice(&second);
 }

@@ -1,6 +1,7 @@
 // The random tape, and the guard that puts its place back.
 
-ghost use Rattle.std.specs.Prelude.{◌≡◌, false, if◌then◌else◌};
+ghost use Rattle.std.specs.Prelude.{◌≡◌, Some};
+ghost use Rattle.std.specs.Option.{unwrap_or};
 
 // The random bytes that all sides hold, and the place up to which they are used.
 #[derive(Drop)]
@@ -12,33 +13,36 @@ pub struct Tape<'a> {
 // The place of a tape, lent to an opening: at its end it is put back, unless the opening was marked done.
 pub(crate) struct PlaceGuard<'a> {
     pub(crate) place: &'a mut usize,
-    old: usize,
-    pub(crate) done: bool,
+    back: Option<usize>,
 }
 
 impl Drop for PlaceGuard<'_> {
     fn drop(self)
-        ensures { self.exit.0.now ≡ (if self.entry.done then self.entry.place.now else self.entry.old) }
+        ensures { self.exit.0.now ≡ unwrap_or self.entry.back self.entry.place.now }
     {
-        let PlaceGuard { place, old, done } = self;
-        if !done {
-            *place = old;
+        let PlaceGuard { place, back } = self;
+        if let Some(back) = back {
+            *place = back;
         }
     }
 }
 
 impl<'a> PlaceGuard<'a> {
     pub(crate) fn start(place: &'a mut usize) -> PlaceGuard<'a>
-        ensures old { result.old ≡ place.old }
-        ensures done { result.done ≡ false }
+        ensures back { result.back ≡ Some place.old }
         ensures now { result.place.now ≡ place.old }
         ensures name { result.place.ghost_name ≡ place.entry.ghost_name }
     {
-        let old = *place;
-        PlaceGuard {
-            place,
-            old,
-            done: false,
-        }
+        let back = Some(*place);
+        PlaceGuard { place, back }
+    }
+
+    // The place stays where it is.
+    pub(crate) fn mark_done(&mut self)
+        ensures back { self.new.back ≡ None }
+        ensures now { self.new.place.now ≡ self.old.place.now }
+        ensures name { self.new.place.ghost_name ≡ self.old.place.ghost_name }
+    {
+        self.back = None;
     }
 }

@@ -16,7 +16,7 @@ use Rattle.opening.proofs.fill.fill_form.Goals as goal
 pub returns : goal.returns
 unfolding equal_output open_asks
 returns g c =
-    let circuit : Wiring = wiring_of c.args.circuit.now in
+    let circuit : Wiring = wiring_of c.args.table.now.circuit in
     let T : List ℕ = c.args.drawn.now in
     let f : HashFunction = g.H.Hash.function c.args.hash.now in
     let f' : HashFunction = g.H.Hash.function c.garble_wires.new.hash in
@@ -27,9 +27,10 @@ returns g c =
     let marked : c.mark_outputs.new.marks ≡ mark_bytes (marks_sent circuit T f false) (marks_sent circuit T f true) =
     c.mark_outputs.ensures.marks
     ∙ (λ i. mark_bytes (marks_of circuit (same i) (offset i) (labels i) false) (marks_of circuit (same i) (offset i) (labels i) true)) in
+    rw (c.from.ensures, c.circuit.ensures, c.from-2.ensures, c.garbled.ensures)
     record {
-      form = form_filled circuit T f c.args.garbled c.args.outputs _ _ c.write_public.new.form c.garble_wires.new.gates
-          c.mark_outputs.new.marks c.requires.gates c.requires.marks c.write_public.ensures.front (c.write_public.ensures.len ∙ c.requires.room)
+      form = form_filled circuit T f c.args.table.now.garbled c.args.table.now.outputs _ _ c.write_public.new.form c.garble_wires.new.gates
+          c.mark_outputs.new.marks c.args.table.now.gates c.args.table.now.marks c.write_public.ensures.front (c.write_public.ensures.len ∙ c.requires.room)
           c.garble_wires.ensures.gates marked refl refl;
       equal = c.mark_outputs.ensures.equal ∙ (λ i. first_of (equal_below circuit (same i) (offset i) (labels i) circuit.wires));
       labels = labels;

@@ -6,21 +6,12 @@ use Rattle.opening.specs.Opening.{opened_store}
 use Rattle.opening.proofs.KeptStore.{stored}
 use Rattle.opening.proofs.sitting.fill_buffers.Goals as goal
 
-pub returns-in-None : goal.returns-in-None
+pub returns-in-None-clause-store : goal.returns-in-None-clause-store
 unfolding opened_store
-returns-in-None g c =
-    let circuit : Wiring = wiring_of c.args.circuit.now in
+returns-in-None-clause-store g c =
+    let circuit : Wiring = wiring_of c.args.table.now.circuit in
     let ws : List ℕ = c.fill_form.new.work in
-    let filled = c.fill_form.ensures in
-    record {
-      equal = c.in-None.ensures.equal;
-      form = filled.form;
-      store = c.fill_store.ensures
-          ∙ (λ i. label_words (c.draw_offset.ensures i)
-          ++ stored ws circuit.inputs circuit.wires _ filled.labels c.requires.inputs
-          (let words = c.requires.words in let long = filled.words in omega (arith, words, long)) i);
-      sheet = c.fill_sheet.ensures;
-      ledger = c.fill.ensures;
-      kept = filled.kept;
-      asked = filled.asked;
-    }
+    rw c.circuit-circuit.ensures at c.fill_store.ensures
+    ∙ (λ i. label_words (c.draw_offset.ensures i)
+    ++ stored ws circuit.inputs circuit.wires _ c.fill_form.ensures.labels c.args.table.now.within
+    (let words = c.requires.room.work in let long = c.fill_form.ensures.words in omega (arith, words, long)) i)
