@@ -1,22 +1,24 @@
 // The gate of the Monday round, an AND of one wire a side: garbled once, evaluated under all four pairs of answers.
 
+use form::control_word;
 use gate::{Dice, Parity, Truth, View, draw_views, garble_gate, shift};
 use gate_laws::play_gate;
-use label::{Answer, AnswerTable, ControlPair, Row, colour};
-use std::io;
+use label::{Answer, AnswerTable, ControlPair, Label, Row, colour};
+use std::{array, io};
 
-const DELTA: (u64, u64) = (1, 2);
+const DELTA: Label = (1, 2);
 
-const FIRST: (u64, u64) = (16, 32);
+const FIRST: Label = (16, 32);
 
-const SECOND: (u64, u64) = (65, 130);
+const SECOND: Label = (65, 130);
 
 const TWEAK: u32 = 6;
 
 // The answer for a number: 256 times it, and its two low bits.
-const fn answer(number: u16) -> Answer {
+// The tests of sittings have these rows too: a program cannot use a crate of tests, and no library call needs a sample.
+fn answer(number: u16) -> Answer {
     Answer {
-        word: 256 * number as u64,
+        word: 256 * u64::from(number),
         pair: ControlPair {
             low: number % 2 == 1,
             high: number / 2 % 2 == 1,
@@ -26,64 +28,29 @@ const fn answer(number: u16) -> Answer {
 
 // Row r has the answers for the numbers 2r and 2r + 1.
 fn rows() -> [Row; 17] {
-    let mut rows = [Row {
-        zero: answer(0),
-        one: answer(0),
-    }; 17];
-    for r in 0..17u16 {
-        rows[usize::from(r)] = Row {
-            zero: answer(2 * r),
-            one: answer(2 * r + 1),
-        };
-    }
-    rows
-}
-
-// The control word: the pair of number e at bits 2e and 2e + 1.
-fn control_word(controls: [ControlPair; 5]) -> u16 {
-    let mut word = 0u16;
-    let mut weight = 1u16;
-    for pair in controls {
-        if pair.low {
-            word |= weight;
-        }
-        if pair.high {
-            word |= weight.wrapping_mul(2);
-        }
-        weight = weight.wrapping_mul(4);
-    }
-    word
-}
-
-// A view as its bits α, β, γ, ε.
-fn bits(view: View) -> (u8, u8, u8, u8) {
-    (
-        u8::from(view.alpha),
-        u8::from(view.beta),
-        u8::from(view.gamma),
-        u8::from(view.epsilon),
-    )
+    array::from_fn(|r| Row {
+        zero: answer(2 * r as u16),
+        one: answer(2 * r as u16 + 1),
+    })
 }
 
 // The view at two colours.
 fn view_at(i: bool, j: bool) -> View {
     let truth = Truth::by_colours(8, colour(FIRST), colour(SECOND));
-    let [v00, v01, v10, v11] = draw_views(Parity::Odd, truth, Dice::from_byte(0));
-    match (i, j) {
-        (false, false) => v00,
-        (false, true) => v01,
-        (true, false) => v10,
-        (true, true) => v11,
-    }
+    let views = draw_views(Parity::Odd, truth, Dice::from_byte(0));
+    views[2 * usize::from(i) + usize::from(j)]
 }
 
 // One pair of answers: the labels met, their colours, the view there, the output label, and the bit that it stands for.
 fn play(rt: &HostRuntime, hash: &mut AnswerTable, u: bool, v: bool) -> io::Result<()> {
     let (gate, output) = play_gate(hash, Parity::Odd, 8, 0, DELTA, FIRST, SECOND, TWEAK, u, v);
-    let first = shift(DELTA, FIRST, u);
-    let second = shift(DELTA, SECOND, v);
-    let view = bits(view_at(colour(first), colour(second)));
-    let (i, j) = (u8::from(colour(first)), u8::from(colour(second)));
+    let (first, second) = (shift(DELTA, FIRST, u), shift(DELTA, SECOND, v));
+    let (i, j) = (colour(first), colour(second));
+    let view = view_at(i, j);
+    let [alpha, beta, gamma, epsilon] = [view.alpha, view.beta, view.gamma, view.epsilon].map(
+        u8::from,
+    );
+    let [u, v, i, j] = [u, v, i, j].map(u8::from);
     let result = if output == gate.label {
         "0"
     } else if output == shift(DELTA, gate.label, true) {
@@ -91,9 +58,8 @@ fn play(rt: &HostRuntime, hash: &mut AnswerTable, u: bool, v: bool) -> io::Resul
     } else {
         "neither"
     };
-    let (u, v) = (u8::from(u), u8::from(v));
     println!(rt;
-        "Monday {u} {v}: labels {first:?} {second:?}, colours {i} {j}, view {view:?}, output label {output:?}, output {result}"
+        "Monday {u} {v}: labels {first:?} {second:?}, colours {i} {j}, view ({alpha}, {beta}, {gamma}, {epsilon}), output label {output:?}, output {result}"
     )
 }
 
@@ -101,11 +67,11 @@ pub(crate) fn run_monday(rt: &HostRuntime) -> io::Result<()> {
     let rows = rows();
     let mut hash = AnswerTable { rows: &rows };
     let gate = garble_gate(&mut hash, Parity::Odd, 8, 0, DELTA, FIRST, SECOND, TWEAK);
-    let label = gate.label;
-    let ciphertexts = gate.ciphertexts;
-    let word = control_word(gate.controls);
     println!(rt;
-        "Monday gate: false label {label:?}, ciphertexts {ciphertexts:?}, control word {word}"
+        "Monday gate: false label {:?}, ciphertexts {:?}, control word {}",
+        gate.label,
+        gate.ciphertexts,
+        control_word(gate.controls)
     )?;
     for (u, v) in [(false, false), (false, true), (true, false), (true, true)] {
         play(rt, &mut hash, u, v)?;
