@@ -32,7 +32,7 @@ pub(crate) fn long_table(
     Ok(bytes)
 }
 
-// Number and place of a refusal; 0, 0 where the call is done.
+// Number and place of a refusal; 0, 0 where the call is done: a pair, as the tests state their values.
 pub(crate) fn told<T: Drop>(answer: Result<T, Refusal>) -> (u8, u32) {
     answer
         .err()

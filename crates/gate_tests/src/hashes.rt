@@ -59,7 +59,7 @@ fn labels_in_bytes(rt: HostRuntime) {
     assert_eq!(rt; label_at(&bytes, 8), (0x100f0e0d0c0b0a09, 0));
 }
 
-// Number and place of a refusal; 0, 0 where the call is done.
+// Number and place of a refusal; 0, 0 where the call is done: a pair, as the tests state their values.
 fn told<T: Drop>(answer: Result<T, Refusal>) -> (u8, u32) {
     answer
         .err()

@@ -19,6 +19,7 @@ fn row(rt: &HostRuntime, table: &Table, inputs: &[bool]) -> anyhow::Result<()> {
     let circuit = table.circuit();
     let mut values = vec![in rt.alloc(); false; usize::from(circuit.wires)]?;
     let mut outputs = vec![in rt.alloc(); false; usize::from(table.outputs())]?;
+    // the buffers fit, so nothing is refused here; a refusal would be printed
     if let Err(refusal) = run_plain(
         &circuit,
         inputs,
@@ -69,6 +70,7 @@ fn run(rt: &HostRuntime) -> anyhow::Result<()> {
     let bytes = hexadecimal::decode(rt.alloc(), first.as_bytes())?.context(
         "the first line is not a table in hexadecimal",
     )?;
+    // a refused table is printed, and is no error of the program
     let table = match Table::check(bytes.as_slice()) {
         Ok(table) => table,
         Err(refusal) => {

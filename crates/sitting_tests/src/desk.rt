@@ -4,6 +4,7 @@ use label::{Answer, AnswerTable, ControlPair, Row};
 use ledger::Ledger;
 use opening::{OpenSitting, Tape, open};
 use refusal::Refusal;
+use std::array;
 
 // An AND of one wire a side: wires 0 and 1 are inputs of sides 0 and 1, wire 2 is the output.
 pub(crate) const TABLE: [u8; 19] = [3, 0, 2, 0, 0, 1, 0xa8, 0, 0, 0, 0, 0, 0, 0, 0, 0, 0, 1, 0];
@@ -15,6 +16,7 @@ pub(crate) const TAPE: [u8; 51] = [
 ];
 
 // The answer for a number: 256 times it, and its two low bits.
+// The program `vectors` has these rows too: it cannot use a crate of tests, and no library call needs a sample.
 fn answer(number: u16) -> Answer {
     Answer {
         word: 256 * u64::from(number),
@@ -27,13 +29,13 @@ fn answer(number: u16) -> Answer {
 
 // Row r has the answers for the numbers 2r and 2r + 1.
 pub(crate) fn sample_rows() -> [Row; 17] {
-    std::array::from_fn(|r| Row {
+    array::from_fn(|r| Row {
         zero: answer(2 * r as u16),
         one: answer(2 * r as u16 + 1),
     })
 }
 
-// Number and place of a refusal; 0, 0 where the call is done.
+// Number and place of a refusal; 0, 0 where the call is done: a pair, as the tests state their values.
 pub(crate) fn told<T: Drop>(answer: Result<T, Refusal>) -> (u8, u32) {
     answer
         .err()
