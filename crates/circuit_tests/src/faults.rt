@@ -1,6 +1,7 @@
 // Every fault of a table, alone and before others.
 
-use crate::tables::{long_table, verdict};
+use crate::tables::{bytes_of, long_table, told};
+use circuit::Table;
 use refusal::{Buffer, Refusal};
 use std::test::Fail;
 
@@ -48,8 +49,12 @@ const CASES: [(&str, u8, u32); 26] = [
 #[test]
 fn first_fault(rt: HostRuntime) -> Result<(), Fail> {
     for (text, number, place) in CASES {
-        let bytes = hexadecimal::decode(rt.alloc(), text.as_bytes())?.ok_or("no hexadecimal text")?;
-        assert_eq!(rt; verdict(bytes.as_slice()), (number, place), "{}", text);
+        let bytes = bytes_of(rt.alloc(), text)?;
+        assert_eq!(rt;
+            told(Table::check(bytes.as_slice())),
+            (number, place),
+            "{text}"
+        );
     }
     Ok(())
 }
@@ -68,9 +73,13 @@ const LONG_CASES: [(u16, u16, u16, u8); 8] = [
 
 #[test]
 fn sizes_at_their_limits(rt: HostRuntime) -> Result<(), Fail> {
-    for (n, m, outputs, number) in LONG_CASES {
-        let bytes = long_table(rt.alloc(), n, m, outputs)?;
-        assert_eq!(rt; verdict(bytes.as_slice()), (number, 0), "a long table");
+    for (wires, inputs, outputs, number) in LONG_CASES {
+        let bytes = long_table(rt.alloc(), wires, inputs, outputs)?;
+        assert_eq!(rt;
+            told(Table::check(bytes.as_slice())),
+            (number, 0),
+            "a long table"
+        );
     }
     Ok(())
 }

@@ -1,12 +1,13 @@
 // The plain circuit and the public table.
 
-use crate::tables::MONDAY;
+use crate::tables::{MONDAY, bytes_of};
 use circuit::{Table, public_table, run_plain};
+use refusal::Refusal;
 use std::test::Fail;
 
 #[test]
 fn monday_under_all_answers(rt: HostRuntime) -> Result<(), Fail> {
-    let bytes = hexadecimal::decode(rt.alloc(), MONDAY.as_bytes())?.ok_or("no hexadecimal text")?;
+    let bytes = bytes_of(rt.alloc(), MONDAY)?;
     let table = Table::check(bytes.as_slice())?;
     for (first, second) in [(false, false), (false, true), (true, false), (true, true)] {
         let mut values = [true; 3];
@@ -25,15 +26,14 @@ fn monday_under_all_answers(rt: HostRuntime) -> Result<(), Fail> {
 
 #[test]
 fn plain_refuses_wrong_rooms(rt: HostRuntime) -> Result<(), Fail> {
-    let bytes = hexadecimal::decode(rt.alloc(), MONDAY.as_bytes())?.ok_or("no hexadecimal text")?;
-    let table = Table::check(bytes.as_slice())?;
-    let mut values = [true; 4];
-    let mut outputs = [true; 2];
-    let refused = run_plain(&table.circuit(), &[true, true], &mut values, &mut outputs);
-    assert_eq!(rt; refused.err().ok_or("not refused")?.place(), 4);
+    let bytes = bytes_of(rt.alloc(), MONDAY)?;
+    let circuit = Table::check(bytes.as_slice())?.circuit();
     let mut values = [true; 3];
-    let refused = run_plain(&table.circuit(), &[true, true], &mut values, &mut outputs);
-    assert_eq!(rt; refused.err().ok_or("not refused")?.place(), 5);
+    let mut outputs = [true; 2];
+    let refused = run_plain(&circuit, &[true, true], &mut [true; 4], &mut outputs);
+    assert_eq!(rt; refused.err().map(Refusal::place), Some(4));
+    let refused = run_plain(&circuit, &[true, true], &mut values, &mut outputs);
+    assert_eq!(rt; refused.err().map(Refusal::place), Some(5));
     assert_eq!(rt; values, [true; 3]);
     assert_eq!(rt; outputs, [true; 2]);
     Ok(())
@@ -41,17 +41,17 @@ fn plain_refuses_wrong_rooms(rt: HostRuntime) -> Result<(), Fail> {
 
 #[test]
 fn public_table_of_monday(rt: HostRuntime) -> Result<(), Fail> {
-    let bytes = hexadecimal::decode(rt.alloc(), MONDAY.as_bytes())?.ok_or("no hexadecimal text")?;
-    let table = Table::check(bytes.as_slice())?;
+    let bytes = bytes_of(rt.alloc(), MONDAY)?;
+    let circuit = Table::check(bytes.as_slice())?.circuit();
     let mut public = [0xff; 19];
-    public_table(&table.circuit(), &mut public)?;
+    public_table(&circuit, &mut public)?;
     assert_eq!(rt;
         public,
         [3, 0, 2, 0, 0, 1, 0xa0, 0, 0, 0, 0, 0, 0, 0, 0, 0, 0, 1, 0]
     );
     let mut short = [0xff; 18];
-    let refused = public_table(&table.circuit(), &mut short);
-    assert_eq!(rt; refused.err().ok_or("not refused")?.number(), 4);
+    let refused = public_table(&circuit, &mut short);
+    assert_eq!(rt; refused.err().map(Refusal::number), Some(4));
     assert_eq!(rt; short, [0xff; 18]);
     Ok(())
 }

@@ -2,11 +2,11 @@
 
 use chacha::ChaChaHash;
 use gate::{LabelPair, Parity, evaluate_gate, free_gate, garble_gate, shift};
-use label::Hash;
+use label::{Hash, Label};
 use std::test::Fail;
 use wires::{Class, look_up};
 
-const DELTA: (u64, u64) = (0x9e3779b97f4a7c15, 0xf39cc0605cedc834);
+const DELTA: Label = (0x9e3779b97f4a7c15, 0xf39cc0605cedc834);
 
 const TWEAK: u32 = 0xfffffffe;
 
@@ -16,34 +16,33 @@ fn play<H: Hash>(
     parity: Parity,
     table: u8,
     dice: u8,
-    first: (u64, u64),
-    second: (u64, u64),
+    first: Label,
+    second: Label,
 ) -> bool {
     let labels = LabelPair { first, second };
     let gate = garble_gate(hash, parity, table, dice, DELTA, labels, TWEAK);
-    let mut right = true;
-    for (u, v) in [(false, false), (false, true), (true, false), (true, true)] {
-        let met = labels.shifted(DELTA, (u, v));
-        let output = evaluate_gate(hash, parity, gate.sent, met, TWEAK);
-        right = right && output == shift(DELTA, gate.label, look_up(table, u, v));
-    }
-    right
+    [(false, false), (false, true), (true, false), (true, true)]
+        .into_iter()
+        .all(|(u, v)| {
+            let met = labels.shifted(DELTA, (u, v));
+            let output = evaluate_gate(hash, parity, gate.sent, met, TWEAK);
+            output == shift(DELTA, gate.label, look_up(table, u, v))
+        })
 }
 
 #[test]
 fn all_truth_tables(rt: HostRuntime) -> Result<(), Fail> {
     let mut hash = ChaChaHash::new(&[7; 28])?;
     for table in 0..16u8 {
+        let (parity, class) = if Class::Even.allows(table) {
+            (Parity::Even, "even")
+        } else {
+            (Parity::Odd, "odd")
+        };
         for dice in 0..16u8 {
-            let (parity, class) = if Class::Even.allows(table) {
-                (Parity::Even, "even")
-            } else {
-                (Parity::Odd, "odd")
-            };
             assert!(rt;
                 play(&mut hash, parity, table, dice, (2, 3), (5, 7)),
-                "{}",
-                class
+                "{class}"
             );
             assert!(rt;
                 play(&mut hash, Parity::Hidden, table, dice, (3, 2), (4, 9)),

@@ -2,96 +2,80 @@
 // Up to eight inputs it prints the outputs for every combination of input bits; with more, for the bits on each line that follows.
 #![tactic(auto)]
 
-mod reason;
+ghost use Rattle.std.specs.Prelude.{◌<◌};
+
 mod show;
 
-use anyhow::anyhow;
+use anyhow::Context;
 use circuit::{Table, run_plain};
-use reason::reason_of;
 use show::{bits_of, digits, sizes};
 use std::alloc::{AllocError, Global};
-use wires::Circuit;
 
 // The most inputs whose combinations are all printed.
 const ALL_COMBINATIONS: u16 = 8;
 
 // One row: the input bits and the outputs.
-fn row(rt: &HostRuntime, circuit: &Circuit, inputs: &[bool], outputs: u16) -> anyhow::Result<()> {
+fn row(rt: &HostRuntime, table: &Table, inputs: &[bool]) -> anyhow::Result<()> {
+    let circuit = table.circuit();
     let mut values = vec![in rt.alloc(); false; usize::from(circuit.wires)]?;
-    let mut results = vec![in rt.alloc(); false; usize::from(outputs)]?;
+    let mut outputs = vec![in rt.alloc(); false; usize::from(table.outputs())]?;
+    // the buffers fit, so nothing is refused here; a refusal would be printed
     if let Err(refusal) = run_plain(
-        circuit,
+        &circuit,
         inputs,
         values.as_mut_slice(),
-        results.as_mut_slice(),
+        outputs.as_mut_slice(),
     ) {
-        println!(rt; "refused {} {}", refusal.number(), refusal.place())?;
-        return Ok(());
+        return Ok(println!(rt; "refused {} {}", refusal.number(), refusal.place())?);
     }
     let given = digits(rt.alloc(), inputs)?;
-    let found = digits(rt.alloc(), results.as_slice())?;
-    println!(rt; "{given} {found}")?;
-    Ok(())
+    let found = digits(rt.alloc(), outputs.as_slice())?;
+    Ok(println!(rt; "{given} {found}")?)
 }
 
 // The bits of a number, as many as there are inputs, wire 0 first.
-fn combination(heap: Global, number: u16, inputs: u16) -> Result<Vec<bool>, AllocError> {
-    let mut bits = Vec::new(heap);
-    let mut weight = 1u16;
-    for _ in 1..inputs {
-        weight = weight.wrapping_mul(2);
-    }
-    for _ in 0..inputs {
-        bits.push(number & weight != 0)?;
-        weight /= 2;
-    }
-    Ok(bits)
+fn combination(heap: Global, number: u16, inputs: u16) -> Result<Vec<bool>, AllocError>
+    requires { inputs < 16 }
+{
+    (0..inputs)
+        .rev()
+        .map(|bit| (number >> bit) % 2 == 1)
+        .collect(heap)
 }
 
-fn all_rows(rt: &HostRuntime, table: &Table) -> anyhow::Result<()> {
-    let circuit = table.circuit();
-    let mut rows = 1u16;
-    for _ in 0..circuit.inputs {
-        rows = rows.wrapping_mul(2);
-    }
-    for number in 0..rows {
-        let inputs = combination(rt.alloc(), number, circuit.inputs)?;
-        row(rt, &circuit, inputs.as_slice(), table.outputs())?;
+// The rows of all combinations of input bits.
+fn all_rows(rt: &HostRuntime, table: &Table) -> anyhow::Result<()>
+    requires { table.now.circuit.inputs < 16 }
+{
+    let inputs = table.circuit().inputs;
+    for number in 0..1u16 << inputs {
+        let bits = combination(rt.alloc(), number, inputs)?;
+        row(rt, table, bits.as_slice())?;
     }
     Ok(())
 }
 
 // The row of a line of bits, if it has one bit for each input.
 fn given_row(rt: &HostRuntime, table: &Table, line: &str) -> anyhow::Result<()> {
-    let circuit = table.circuit();
-    match bits_of(rt.alloc(), line.as_bytes(), usize::from(circuit.inputs))? {
-        Some(inputs) => row(rt, &circuit, inputs.as_slice(), table.outputs()),
-        None => {
-            println!(rt; "expected {} bits, each 0 or 1: {line}", circuit.inputs)?;
-            Ok(())
-        }
+    let inputs = table.circuit().inputs;
+    match bits_of(rt.alloc(), line.as_bytes(), usize::from(inputs))? {
+        Some(bits) => row(rt, table, bits.as_slice()),
+        None => Ok(println!(rt; "expected {inputs} bits, each 0 or 1: {line}")?),
     }
 }
 
 fn run(rt: &HostRuntime) -> anyhow::Result<()> {
     let mut lines = rt.lines(rt.alloc());
-    let Some(first) = lines.next() else {
-        return Err(anyhow!("no circuit table on standard input"));
-    };
-    let text = first?;
-    let Some(bytes) = hexadecimal::decode(rt.alloc(), text.as_bytes())? else {
-        return Err(anyhow!("the first line is not a table in hexadecimal"));
-    };
+    let first = lines.next().context("no circuit table on standard input")??;
+    let bytes = hexadecimal::decode(rt.alloc(), first.as_bytes())?.context(
+        "the first line is not a table in hexadecimal",
+    )?;
+    // a refused table is printed, and is no error of the program
     let table = match Table::check(bytes.as_slice()) {
         Ok(table) => table,
         Err(refusal) => {
-            println!(rt;
-                "refused {} {}: {}",
-                refusal.number(),
-                refusal.place(),
-                reason_of(refusal)
-            )?;
-            return Ok(());
+            let (number, place) = (refusal.number(), refusal.place());
+            return Ok(println!(rt; "refused {number} {place}: {refusal}")?);
         }
     };
     sizes(rt, &table)?;
@@ -99,8 +83,7 @@ fn run(rt: &HostRuntime) -> anyhow::Result<()> {
         return all_rows(rt, &table);
     }
     for line in lines {
-        let line = line?;
-        given_row(rt, &table, line.as_str())?;
+        given_row(rt, &table, line?.as_str())?;
     }
     Ok(())
 }

@@ -5,52 +5,42 @@ use std::alloc::{AllocError, Global};
 use std::io;
 use wires::{Circuit, Class};
 
-fn inputs_of(circuit: &Circuit, side: u8) -> u16 {
-    let mut count = 0u16;
-    for wire in 0..circuit.inputs {
-        if circuit.side(wire) == side {
-            count = count.saturating_add(1);
-        }
-    }
-    count
+// How many inputs are of a side.
+fn inputs_of(circuit: &Circuit, side: u8) -> usize {
+    (0..circuit.inputs)
+        .filter(|wire| circuit.side(*wire) == side)
+        .count()
 }
 
-fn gates_of(circuit: &Circuit, class: Class) -> u16 {
-    let mut count = 0u16;
-    for wire in circuit.inputs..circuit.wires {
-        if circuit.class(wire) == class {
-            count = count.saturating_add(1);
-        }
-    }
-    count
+// How many gates are of a class.
+fn gates_of(circuit: &Circuit, class: Class) -> usize {
+    (circuit.inputs..circuit.wires)
+        .filter(|gate| circuit.class(*gate) == class)
+        .count()
 }
 
 // The sizes of a table: wires, inputs by side, gates by class, outputs.
 pub(crate) fn sizes(rt: &HostRuntime, table: &Table) -> io::Result<()> {
     let circuit = table.circuit();
-    println!(rt; "wires {}", circuit.wires)?;
+    let Circuit { wires, inputs, .. } = circuit;
+    let [first, second] = [0, 1].map(|side| inputs_of(&circuit, side));
+    let [free, even, odd, hidden] = [Class::Free, Class::Even, Class::Odd, Class::Hidden].map(
+        |class| gates_of(&circuit, class),
+    );
+    println!(rt; "wires {wires}")?;
+    println!(rt; "inputs {inputs}: side 0 {first}, side 1 {second}")?;
     println!(rt;
-        "inputs {}: side 0 {}, side 1 {}",
-        circuit.inputs,
-        inputs_of(&circuit, 0),
-        inputs_of(&circuit, 1)
+        "gates {}: free {free}, even {even}, odd {odd}, hidden {hidden}",
+        wires - inputs
     )?;
-    let gates = circuit.wires.saturating_sub(circuit.inputs);
-    let free = gates_of(&circuit, Class::Free);
-    let even = gates_of(&circuit, Class::Even);
-    let odd = gates_of(&circuit, Class::Odd);
-    let hidden = gates_of(&circuit, Class::Hidden);
-    println!(rt; "gates {gates}: free {free}, even {even}, odd {odd}, hidden {hidden}")?;
     println!(rt; "outputs {}", table.outputs())
 }
 
 // Bits as digits 0 and 1.
 pub(crate) fn digits(heap: Global, bits: &[bool]) -> Result<String, AllocError> {
-    let mut text = String::new(heap);
-    for bit in bits {
-        text.push(if *bit { '1' } else { '0' })?;
-    }
-    Ok(text)
+    bits.iter()
+        .map(|bit| if *bit { '1' } else { '0' })
+        .collect(heap)
 }
 
 // The bits of a text of this many digits, each 0 or 1.
@@ -62,13 +52,11 @@ pub(crate) fn bits_of(
     if text.len() != count {
         return Ok(None);
     }
-    let mut bits = Vec::new(heap);
-    for character in text {
-        match *character {
-            b'0' => bits.push(false)?,
-            b'1' => bits.push(true)?,
-            _ => return Ok(None),
-        }
-    }
-    Ok(Some(bits))
+    text.iter()
+        .map(|digit| match digit {
+            b'0' => Some(false),
+            b'1' => Some(true),
+            _ => None,
+        })
+        .collect(heap)
 }

@@ -1,7 +1,9 @@
 // The examples of FIPS 197, and queries of the hash built on AES.
 
+use crate::aes_queries::QUERIES;
+use crate::report::report;
 use aes::AesHash;
-use label::{Answer, ControlPair};
+use label::Answer;
 use std::io;
 
 // The key of FIPS 197, appendix B, with the bytes f0 to ff behind it as u1 and u2; and that of C.1.
@@ -29,129 +31,58 @@ const PLAIN_C: &[u8; 16] = b"\x00\x11\x22\x33\x44\x55\x66\x77\x88\x99\xaa\xbb\xc
 
 const CIPHER_C: &[u8; 16] = b"\x69\xc4\xe0\xd8\x6a\x7b\x04\x30\xd8\xcd\xb7\x80\x70\xb4\xc5\x5a";
 
-#[derive(Clone, Copy)]
-struct Query {
-    label: (u64, u64),
-    tweak: u32,
-    answer: (u64, (bool, bool)),
+// The words of the schedule, and none after them.
+fn run_schedule(rt: &HostRuntime, hash: &AesHash) -> io::Result<()> {
+    for (i, word) in SCHEDULE.iter().enumerate() {
+        let line = format_args!("AES w{i} {word:08x}:");
+        report(rt, line, hash.round_key_word(i), Some(*word))?;
+    }
+    report(rt, "AES no w44:", hash.round_key_word(44), None)
 }
 
-const QUERIES: [Query; 8] = [
-    Query {
-        label: (0x0000000000000000, 0x0000000000000000),
-        tweak: 0x00000000,
-        answer: (0xb399b81a0c6bf77d, (false, true)),
-    },
-    Query {
-        label: (0x0000000000000000, 0x0000000000000000),
-        tweak: 0x00000001,
-        answer: (0x5f918b71943a6f17, (true, false)),
-    },
-    Query {
-        label: (0x0123456789abcdef, 0xfedcba9876543210),
-        tweak: 0x00000002,
-        answer: (0x33a2408a4155752a, (false, false)),
-    },
-    Query {
-        label: (0x0123456789abcdef, 0xfedcba9876543210),
-        tweak: 0x80000000,
-        answer: (0xed6611d9e7eccb84, (false, false)),
-    },
-    Query {
-        label: (0xffffffffffffffff, 0xffffffffffffffff),
-        tweak: 0xffffffff,
-        answer: (0x02272ff01bb3d825, (false, true)),
-    },
-    Query {
-        label: (0x8000000000000000, 0x8000000000000001),
-        tweak: 0x00010203,
-        answer: (0x8cc7882a52b0124f, (false, true)),
-    },
-    Query {
-        label: (0x243f6a8885a308d3, 0x13198a2e03707344),
-        tweak: 0xdeadbeef,
-        answer: (0x6ddc7ff04bc4c6a7, (false, true)),
-    },
-    Query {
-        label: (0x0000000000000001, 0x4000000000000000),
-        tweak: 0x7fffffff,
-        answer: (0xf0af6698b5340735, (true, true)),
-    },
-];
-
-fn print_block(rt: &HostRuntime, name: &str, got: [u8; 16], expected: [u8; 16]) -> io::Result<()> {
-    if got == expected {
-        println!(rt; "{name}: ok")
-    } else {
-        println!(rt; "{name}: {got:?}, expected {expected:?}")
-    }
+// Key material of another length than 32 bytes.
+fn run_refusal(rt: &HostRuntime) -> io::Result<()> {
+    let place = AesHash::new(PLAIN_B).err().map(|refusal| refusal.place());
+    report(rt, "AES hash, 16 bytes:", place, Some(6))
 }
 
-fn print_schedule(rt: &HostRuntime, hash: &AesHash) -> io::Result<()> {
-    for (i, expected) in SCHEDULE.iter().copied().enumerate() {
-        match hash.round_key_word(i) {
-            Some(word) if word == expected => println!(rt; "AES w{i} {word:08x}: ok")?,
-            other => println!(rt; "AES w{i} {other:?}, expected {expected:08x}")?,
-        }
-    }
-    match hash.round_key_word(44) {
-        None => println!(rt; "AES no w44: ok"),
-        Some(word) => println!(rt; "AES w44 {word:08x}, expected none"),
-    }
-}
-
-fn print_query(rt: &HostRuntime, hash: &AesHash, query: Query) -> io::Result<()> {
-    let Query {
-        label: (left, right),
-        tweak,
-        answer,
-    } = query;
-    let Answer {
-        word,
-        pair: ControlPair { low, high },
-    } = hash.answer(query.label, tweak);
-    if (word, (low, high)) == answer {
-        println!(rt; "AES hash {left:016x} {right:016x} {tweak:08x}: {word:016x} {low} {high} ok")
-    } else {
-        println!(rt;
-            "AES hash {left:016x} {right:016x} {tweak:08x}: {word:016x} {low} {high}, expected {answer:?}"
-        )
-    }
-}
-
-fn print_refusal(rt: &HostRuntime) -> io::Result<()> {
-    match AesHash::new(PLAIN_B) {
-        Err(refusal) if refusal.place() == 6 => println!(rt; "AES hash, 16 bytes: ok"),
-        _ => println!(rt; "AES hash, 16 bytes: not refused"),
-    }
-}
-
-fn print_appendix_b(rt: &HostRuntime) -> io::Result<()> {
-    let Ok(hash) = AesHash::new(MATERIAL_B) else {
+fn run_appendix_b(rt: &HostRuntime) -> io::Result<()> {
+    let Ok(mut hash) = AesHash::new(MATERIAL_B) else {
         return println!(rt; "the key material of appendix B was refused");
     };
-    print_schedule(rt, &hash)?;
-    print_block(rt, "FIPS 197 appendix B", hash.encrypt(*PLAIN_B), *CIPHER_B)?;
-    for query in QUERIES {
-        print_query(rt, &hash, query)?;
+    run_schedule(rt, &hash)?;
+    report(
+        rt,
+        "FIPS 197 appendix B:",
+        hash.encrypt(*PLAIN_B),
+        *CIPHER_B,
+    )?;
+    for query in &QUERIES {
+        let (left, right) = query.label;
+        let Answer { word, pair } = query.expected;
+        let line = format_args!(
+            "AES hash {left:016x} {right:016x} {:08x}: {word:016x} {} {}",
+            query.tweak, pair.low, pair.high
+        );
+        query.run(rt, &mut hash, line)?;
     }
     Ok(())
 }
 
-fn print_appendix_c(rt: &HostRuntime) -> io::Result<()> {
+fn run_appendix_c(rt: &HostRuntime) -> io::Result<()> {
     let Ok(hash) = AesHash::new(MATERIAL_C) else {
         return println!(rt; "the key material of appendix C.1 was refused");
     };
-    print_block(
+    report(
         rt,
-        "FIPS 197 appendix C.1",
+        "FIPS 197 appendix C.1:",
         hash.encrypt(*PLAIN_C),
         *CIPHER_C,
     )
 }
 
 pub(crate) fn run_aes(rt: &HostRuntime) -> io::Result<()> {
-    print_refusal(rt)?;
-    print_appendix_b(rt)?;
-    print_appendix_c(rt)
+    run_refusal(rt)?;
+    run_appendix_b(rt)?;
+    run_appendix_c(rt)
 }

@@ -2,11 +2,13 @@
 // apart from this code, and the Monday gate. Each line says 'ok', or what differs.
 #![tactic(auto)]
 
+mod aes_queries;
 mod aes_run;
 mod chacha_published;
 mod chacha_queries;
 mod chacha_run;
 mod monday;
+mod report;
 
 use aes_run::run_aes;
 use chacha_run::run_chacha;

@@ -1,11 +1,12 @@
 // The gate of the Monday round, an AND of one wire a side: garbled once, evaluated under all four pairs of answers.
 
+use form::control_word;
 use gate::{Colours, Dice, Gate, LabelPair, Parity, Truth, View, draw_views, garble_gate, shift};
 use gate_laws::play_gate;
-use label::{Answer, AnswerTable, ControlPair, Row};
-use std::io;
+use label::{Answer, AnswerTable, ControlPair, Label, Row};
+use std::{array, io};
 
-const DELTA: (u64, u64) = (1, 2);
+const DELTA: Label = (1, 2);
 
 const LABELS: LabelPair = LabelPair {
     first: (16, 32),
@@ -15,9 +16,10 @@ const LABELS: LabelPair = LabelPair {
 const TWEAK: u32 = 6;
 
 // The answer for a number: 256 times it, and its two low bits.
-const fn answer(number: u16) -> Answer {
+// The tests of sittings have these rows too: a program cannot use a crate of tests, and no library call needs a sample.
+fn answer(number: u16) -> Answer {
     Answer {
-        word: 256 * number as u64,
+        word: 256 * u64::from(number),
         pair: ControlPair {
             low: number % 2 == 1,
             high: number / 2 % 2 == 1,
@@ -27,59 +29,20 @@ const fn answer(number: u16) -> Answer {
 
 // Row r has the answers for the numbers 2r and 2r + 1.
 fn rows() -> [Row; 17] {
-    let mut rows = [Row {
-        zero: answer(0),
-        one: answer(0),
-    }; 17];
-    for r in 0..17u16 {
-        rows[usize::from(r)] = Row {
-            zero: answer(2 * r),
-            one: answer(2 * r + 1),
-        };
-    }
-    rows
-}
-
-// The control word: the pair of number e at bits 2e and 2e + 1.
-fn control_word(controls: [ControlPair; 5]) -> u16 {
-    let mut word = 0u16;
-    let mut weight = 1u16;
-    for pair in controls {
-        if pair.low {
-            word |= weight;
-        }
-        if pair.high {
-            word |= weight.wrapping_mul(2);
-        }
-        weight = weight.wrapping_mul(4);
-    }
-    word
-}
-
-// A view as its bits α, β, γ, ε.
-fn bits(view: View) -> (u8, u8, u8, u8) {
-    (
-        u8::from(view.alpha),
-        u8::from(view.beta),
-        u8::from(view.gamma),
-        u8::from(view.epsilon),
-    )
+    array::from_fn(|r| Row {
+        zero: answer(2 * r as u16),
+        one: answer(2 * r as u16 + 1),
+    })
 }
 
 // The view at two colours.
 fn view_at(colours: Colours) -> View {
-    let gate = Gate {
+    let views = draw_views(Gate {
         parity: Parity::Odd,
         truth: Truth::by_colours(8, LABELS.colours()),
         dice: Dice::from(0),
-    };
-    let [v00, v01, v10, v11] = draw_views(gate);
-    match colours {
-        (false, false) => v00,
-        (false, true) => v01,
-        (true, false) => v10,
-        (true, true) => v11,
-    }
+    });
+    views[2 * usize::from(colours.0) + usize::from(colours.1)]
 }
 
 // One pair of answers: the labels met, their colours, the view there, the output label, and the bit that it stands for.
@@ -87,9 +50,12 @@ fn play(rt: &HostRuntime, hash: &mut AnswerTable, u: bool, v: bool) -> io::Resul
     let (gate, output) = play_gate(hash, Parity::Odd, 8, 0, DELTA, LABELS, TWEAK, (u, v));
     let met = LABELS.shifted(DELTA, (u, v));
     let LabelPair { first, second } = met;
-    let view = bits(view_at(met.colours()));
     let (i, j) = met.colours();
-    let (i, j) = (u8::from(i), u8::from(j));
+    let view = view_at((i, j));
+    let [alpha, beta, gamma, epsilon] = [view.alpha, view.beta, view.gamma, view.epsilon].map(
+        u8::from,
+    );
+    let [u, v, i, j] = [u, v, i, j].map(u8::from);
     let result = if output == gate.label {
         "0"
     } else if output == shift(DELTA, gate.label, true) {
@@ -97,9 +63,8 @@ fn play(rt: &HostRuntime, hash: &mut AnswerTable, u: bool, v: bool) -> io::Resul
     } else {
         "neither"
     };
-    let (u, v) = (u8::from(u), u8::from(v));
     println!(rt;
-        "Monday {u} {v}: labels {first:?} {second:?}, colours {i} {j}, view {view:?}, output label {output:?}, output {result}"
+        "Monday {u} {v}: labels {first:?} {second:?}, colours {i} {j}, view ({alpha}, {beta}, {gamma}, {epsilon}), output label {output:?}, output {result}"
     )
 }
 
@@ -107,11 +72,11 @@ pub(crate) fn run_monday(rt: &HostRuntime) -> io::Result<()> {
     let rows = rows();
     let mut hash = AnswerTable { rows: &rows };
     let gate = garble_gate(&mut hash, Parity::Odd, 8, 0, DELTA, LABELS, TWEAK);
-    let label = gate.label;
-    let ciphertexts = gate.sent.ciphertexts;
-    let word = control_word(gate.sent.controls);
     println!(rt;
-        "Monday gate: false label {label:?}, ciphertexts {ciphertexts:?}, control word {word}"
+        "Monday gate: false label {:?}, ciphertexts {:?}, control word {}",
+        gate.label,
+        gate.sent.ciphertexts,
+        control_word(gate.sent.controls)
     )?;
     for (u, v) in [(false, false), (false, true), (true, false), (true, true)] {
         play(rt, &mut hash, u, v)?;
