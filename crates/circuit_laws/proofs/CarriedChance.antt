@@ -5,8 +5,9 @@ use Rattle.label.specs.Hashes.{HashFunction}
 use Rattle.label.specs.Rows.{blank_row, table_function}
 use Rattle.label.specs.declared.rows.Row.{Row}
 use Rattle.wires.specs.Wires.{Wiring, first_at, second_at, class_at, truth_at, is_garbled, garbled_wires}
+use Rattle.gate.specs.Classes.{parity_of}
 use Rattle.garbling.specs.Tape.{need, drawn, offset_in, dice_in, need_of, drawn_for}
-use Rattle.garbling.specs.Garbling.{parity_of, gate_index}
+use Rattle.garbling.specs.Garbling.{gate_index}
 use Rattle.circuit_laws.specs.Chance.{Each, FitsRow, Chance}
 use Rattle.circuit_laws.proofs.Shown.{Shows, garbled_wires_shown, garbled_gate_lem}
 use Rattle.circuit_laws.proofs.Remade.{each_at, each_take, each_drop}

@@ -9,10 +9,12 @@ use Rattle.gate.specs.Sums.{shifted}
 use Rattle.circuit.specs.Accepted.{WiresSound}
 use Rattle.circuit.specs.Plain.{values_of}
 use Rattle.circuit.specs.Public.{PublicOf}
+use Rattle.gate.specs.declared.garble.SentGate.{SentGate}
+use Rattle.gate.specs.declared.garble.GarbledGate.{GarbledGate}
 use Rattle.garbling.specs.Tape.{offset_in}
 use Rattle.garbling.specs.Garbling.{label_in, gate_index, falses_of, gate_at}
 use Rattle.garbling.specs.Marks.{Mark, same_mark, mark_of, mark_at, marks_of, equal_at, equal_below}
-use Rattle.garbling.specs.Evaluation.{SentGate, sent, no_gate, read_mark, output_index, output_at}
+use Rattle.garbling.specs.Evaluation.{no_gate, read_mark, output_index, output_at}
 use Rattle.circuit_laws.specs.Round.{input_labels, sent_gates, labels_met}
 use Rattle.circuit_laws.specs.CircuitComputes.{RightOutputs, CircuitComputes}
 use Rattle.circuit_laws.proofs.Picked.{map-where, get_or-where, none_where, map-map}
@@ -28,15 +30,15 @@ module _ (c : Wiring) (sound : WiresSound allowed c c.wires) (d : Wiring) (shown
 
   -- The gate that the server finds in its place is the one that was garbled.
   pub gate_found : (w : ℕ) → w < d.wires → d.inputs ≤ w → is_free (class_at d w) ≡ false
-      → get_or (sent_gates c T f) (gate_index d w) no_gate ≡ sent (gate_of d (truth_at c) T f F w)
+      → get_or (sent_gates c T f) (gate_index d w) no_gate ≡ (gate_of d (truth_at c) T f F w).sent
   gate_found w below gate not-Free =
       let b : w < c.wires = omega (arith, shown.wires) in
       let g : c.inputs ≤ w = omega (arith, shown.inputs) in
       let picked : is_garbled c w ≡ true = is_garbled_lem c w g (ap is_free (sym (shown.classes w b g)) ∙ not-Free) in
       ap (λ (k : ℕ). get_or (sent_gates c T f) k no_gate) (index_shown c d shown w (omega arith))
-      ∙ ap (λ (l : List SentGate). get_or l (gate_index c w) no_gate) (map-map sent (gate_at c T f) (garbled_wires c))
-      ∙ get_or-where (is_garbled c) (λ k. sent (gate_at c T f k)) c.wires w no_gate b picked
-      ∙ ap sent (gate_listed c T f sound d shown w b g)
+      ∙ ap (λ (l : List SentGate). get_or l (gate_index c w) no_gate) (map-map (λ (g : GarbledGate). g.sent) (gate_at c T f) (garbled_wires c))
+      ∙ get_or-where (is_garbled c) (λ k. (gate_at c T f k).sent) c.wires w no_gate b picked
+      ∙ ap (λ (g : GarbledGate). g.sent) (gate_listed c T f sound d shown w b g)
 
   module _ (x : List Bool) where
     abbrev V : ℕ → Bool

@@ -17,9 +17,10 @@ use Rattle.circuit.specs.Accepted.{WiresSound}
 use Rattle.circuit.specs.Plain.{PlainRun, values_of, at_outputs}
 use Rattle.circuit.specs.Public.{PublicOf}
 use Rattle.circuit.proofs.PlainRuns.{plain_run_of}
+use Rattle.gate.specs.Classes.{parity_of}
 use Rattle.garbling.specs.Tape.{offset_in, dice_in}
 use Rattle.garbling.specs.Tweaks.{gate_tweak}
-use Rattle.garbling.specs.Garbling.{parity_of, label_in, false_from, falses_below, falses_of, gate_at}
+use Rattle.garbling.specs.Garbling.{label_in, false_from, falses_below, falses_of, gate_at}
 use Rattle.circuit_laws.proofs.Built.{built_at, built_stays}
 use Rattle.circuit_laws.proofs.Wired.{Wired, gate_of}
 use Rattle.circuit_laws.proofs.Shown.{index_shown}

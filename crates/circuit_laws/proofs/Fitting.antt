@@ -16,9 +16,10 @@ use Rattle.gate.specs.Gates.{garbled_gate, colourless, tweak_after}
 use Rattle.gate_laws.specs.GateBlind.{Throw, Word, FitsWords, numbers_of}
 use Rattle.gate_laws.proofs.Words.{words}
 use Rattle.gate_laws.proofs.Carried.{carried}
+use Rattle.gate.specs.Classes.{parity_of}
 use Rattle.garbling.specs.Tape.{coloured, offset_in, permute_in, dice_in}
 use Rattle.garbling.specs.Tweaks.{gate_tweak}
-use Rattle.garbling.specs.Garbling.{parity_of, gate_index}
+use Rattle.garbling.specs.Garbling.{gate_index}
 use Rattle.circuit_laws.specs.Chance.{Each, FitsRow}
 use Rattle.circuit_laws.proofs.Remade.{each_at}
 use Rattle.circuit_laws.proofs.Wired.{Wired, active, wire_by_wire}

@@ -11,10 +11,12 @@ use Rattle.gate.specs.Sums.{shifted, sum_of}
 use Rattle.gate.specs.Gates.{evaluated_gate}
 use Rattle.gate_laws.proofs.Colours.{sum_shifted}
 use Rattle.gate_laws.proofs.Computes.{gate_computes}
+use Rattle.gate.specs.Classes.{parity_of}
+use Rattle.gate.specs.declared.garble.SentGate.{SentGate}
 use Rattle.garbling.specs.Tape.{offset_in, dice_in}
 use Rattle.garbling.specs.Tweaks.{gate_tweak}
-use Rattle.garbling.specs.Garbling.{parity_of, label_in, gate_index}
-use Rattle.garbling.specs.Evaluation.{SentGate, sent, no_gate, met_from, met_below, met_of}
+use Rattle.garbling.specs.Garbling.{label_in, gate_index}
+use Rattle.garbling.specs.Evaluation.{no_gate, met_from, met_below, met_of}
 use Rattle.circuit_laws.proofs.Built.{built_length, built_at, built_stays}
 use Rattle.circuit_laws.proofs.Wired.{Wired, gate_of, active, wire_by_wire}
 
@@ -38,7 +40,7 @@ module _ (d : Wiring) (g : ℕ → ℕ) (x : ℕ → Bool) (T : List ℕ) (f : H
 
   pub active_garbled : (w : ℕ) → w < d.wires → d.inputs ≤ w → is_free (class_at d w) ≡ false
       → let gate : GarbledGate = gate_of d g T f F w in
-      E w ≡ evaluated_gate f (parity_of (class_at d w)) gate.ciphertexts gate.controls (E (first_at d w)) (E (second_at d w)) (gate_tweak w)
+      E w ≡ evaluated_gate f (parity_of (class_at d w)) gate.sent.ciphertexts gate.sent.controls (E (first_at d w)) (E (second_at d w)) (gate_tweak w)
   active_garbled w below gate not-Free =
       let h = wired.garbled w below gate not-Free in
       (λ i. shifted halves (offset_in T) (h.0 i) (h.1 i))
@@ -62,7 +64,7 @@ module _ (d : Wiring) (f : HashFunction) (gs : List SentGate) (inputs : List Lab
 
   module _ (g : ℕ → ℕ) (x : ℕ → Bool) (T : List ℕ) (F : ℕ → Label) (V : ℕ → Bool) (wired : Wired d g x T f F V)
       (given : (w : ℕ) → w < d.inputs → label_in inputs w ≡ shifted halves (offset_in T) (F w) (x w))
-      (listed : (w : ℕ) → w < d.wires → d.inputs ≤ w → is_free (class_at d w) ≡ false → get_or gs (gate_index d w) no_gate ≡ sent (gate_of d g T f F w)) where
+      (listed : (w : ℕ) → w < d.wires → d.inputs ≤ w → is_free (class_at d w) ≡ false → get_or gs (gate_index d w) no_gate ≡ (gate_of d g T f F w).sent) where
     met_at : (w : ℕ) → w < d.wires → label_in (met_of d f gs inputs) w ≡ met_from d f gs inputs (met_below d f gs inputs w) w
     met_at w below = built_at (met_below d f gs inputs) (met_from d f gs inputs) none more d.wires w (0, 0) below
 

@@ -20,10 +20,10 @@ use Rattle.gate_laws.proofs.Colours.{shifted_twice}
 use Rattle.gate_laws.proofs.Parities.{parity_by_colours}
 use Rattle.gate_laws.proofs.Carried.{carried, carried_twice, carried_view}
 use Rattle.circuit.specs.Check.{most_wires}
+use Rattle.gate.specs.Classes.{parity_of}
+use Rattle.gate.specs.declared.garble.SentGate.{SentGate}
 use Rattle.garbling.specs.Tape.{offset_in, input_in}
 use Rattle.garbling.specs.Tweaks.{gate_tweak}
-use Rattle.garbling.specs.Garbling.{parity_of}
-use Rattle.garbling.specs.Evaluation.{SentGate, sent}
 use Rattle.circuit_laws.proofs.BitSums.{xor_first_after}
 use Rattle.circuit_laws.proofs.Wired.{Wired, gate_of, active, wire_by_wire}
 use Rattle.circuit_laws.proofs.LabelsMet.{active_free, active_garbled}
@@ -63,7 +63,7 @@ answers_seen v =
 pub record Alike (d : Wiring) (g g' : ℕ → ℕ) (T T' : List ℕ) (rows rows' : List Row) (F F' : ℕ → Label) (V V' : ℕ → Bool) : Type 0 where
   pub labels : (w : ℕ) → w < d.wires → active (offset_in T') F' V' w ≡ active (offset_in T) F V w
   pub gates : (w : ℕ) → w < d.wires → d.inputs ≤ w → is_free (class_at d w) ≡ false
-      → sent (gate_of d g' T' (table_function rows') F' w) ≡ sent (gate_of d g T (table_function rows) F w)
+      → (gate_of d g' T' (table_function rows') F' w).sent ≡ (gate_of d g T (table_function rows) F w).sent
   pub answers : (w : ℕ) → w < d.wires → d.inputs ≤ w → is_free (class_at d w) ≡ false
       → answers_to (table_function rows') (three_questions (active (offset_in T') F' V' (first_at d w)) (active (offset_in T') F' V' (second_at d w)) (gate_tweak w))
       ≡ answers_to (table_function rows) (three_questions (active (offset_in T) F V (first_at d w)) (active (offset_in T) F V (second_at d w)) (gate_tweak w))

@@ -12,11 +12,12 @@ use Rattle.gate.specs.Sums.{shifted}
 use Rattle.gate.specs.Gates.{answers_to, three_questions, tweak_after}
 use Rattle.circuit.specs.Check.{most_wires}
 use Rattle.circuit.specs.Plain.{values_of}
+use Rattle.gate.specs.declared.garble.GarbledGate.{GarbledGate}
 use Rattle.garbling.specs.Tape.{offset_in}
 use Rattle.garbling.specs.Tweaks.{gate_tweak, mark_tweak}
 use Rattle.garbling.specs.Garbling.{label_in, falses_of, gate_at}
 use Rattle.garbling.specs.Marks.{mark_questions}
-use Rattle.garbling.specs.Evaluation.{sent, met_below, evaluate_asks_at}
+use Rattle.garbling.specs.Evaluation.{met_below, evaluate_asks_at}
 use Rattle.circuit_laws.specs.Round.{input_labels, sent_gates, labels_met}
 use Rattle.circuit_laws.specs.CircuitBlind.{gate_answers, output_answers}
 use Rattle.circuit_laws.proofs.Picked.{map-where, joined-where, map-joined, map-map}
@@ -56,12 +57,12 @@ module _ (c d : Wiring) (shows : Shows c d) (T : List ℕ) (f : HashFunction) (x
   pub met_of : (w : ℕ) → w < d.wires → label_in (labels_met c d T f x) w ≡ E w
   met_of = labels_right c shows.sound d shows.shown T f x
 
-  pub gates_of_lem : sent_gates c T f ≡ map (λ w. sent (gate_of d (truth_at c) T f (false_of c T f) w)) (garbled_wires d)
+  pub gates_of_lem : sent_gates c T f ≡ map (λ w. (gate_of d (truth_at c) T f (false_of c T f) w).sent) (garbled_wires d)
   gates_of_lem =
-      map-map sent (gate_at c T f) (garbled_wires c) ∙ ap (map (λ w. sent (gate_at c T f w))) (sym (garbled_wires_shown c d shows.shown))
+      map-map (λ (g : GarbledGate). g.sent) (gate_at c T f) (garbled_wires c) ∙ ap (map (λ w. (gate_at c T f w).sent)) (sym (garbled_wires_shown c d shows.shown))
       ∙ map-where (is_garbled d) d.wires _ _ (λ w below picked.
       let gate = garbled_gate_lem d w picked in
-      ap sent (gate_listed c T f shows.sound d shows.shown w (omega (arith, shows.shown.wires)) (omega (arith, shows.shown.inputs))))
+      ap (λ (g : GarbledGate). g.sent) (gate_listed c T f shows.sound d shows.shown w (omega (arith, shows.shown.wires)) (omega (arith, shows.shown.inputs))))
 
   pub input_labels_of : input_labels c T f x ≡ map E (range_with_len 0 d.inputs)
   input_labels_of =

@@ -14,9 +14,10 @@ use Rattle.gate_laws.specs.GateSeen.{seen, throw_of}
 use Rattle.gate_laws.proofs.Colours.{colour_of_sum, colour_of_shifted}
 use Rattle.gate_laws.proofs.Computes.{gate_seen}
 use Rattle.circuit.specs.Check.{most_wires}
+use Rattle.gate.specs.Classes.{parity_of}
 use Rattle.garbling.specs.Tape.{offset_in, dice_in}
 use Rattle.garbling.specs.Tweaks.{gate_tweak}
-use Rattle.garbling.specs.Garbling.{parity_of, gate_index}
+use Rattle.garbling.specs.Garbling.{gate_index}
 use Rattle.circuit_laws.proofs.BitSums.{xor_self, xor_second_after}
 use Rattle.circuit_laws.proofs.Wired.{gate_of, active}
 use Rattle.circuit_laws.proofs.LabelsMet.{offset_coloured}

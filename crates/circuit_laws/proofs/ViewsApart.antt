@@ -8,8 +8,8 @@ use Rattle.label.specs.Labels.{Label}
 use Rattle.label.specs.declared.hash.Answer.{Answer}
 use Rattle.label.specs.declared.xor.ControlPair.{ControlPair}
 use Rattle.gate_laws.proofs.Shapes.{discrete_iso, pair_discrete}
+use Rattle.gate.specs.declared.garble.SentGate.{SentGate}
 use Rattle.garbling.specs.Marks.{Mark}
-use Rattle.garbling.specs.Evaluation.{SentGate}
 use Rattle.circuit_laws.specs.CircuitBlind.{ServerView}
 
 gate_parts : Iso SentGate (List ℕ × List ControlPair)

@@ -9,9 +9,10 @@ use Rattle.gate.specs.declared.garble.GarbledGate.{GarbledGate}
 use Rattle.gate.specs.Sums.{shifted, sum_of}
 use Rattle.gate.specs.Gates.{garbled_gate}
 use Rattle.gate_laws.specs.Computes.{suits}
+use Rattle.gate.specs.Classes.{parity_of}
 use Rattle.garbling.specs.Tape.{offset_in, input_in, dice_in}
 use Rattle.garbling.specs.Tweaks.{gate_tweak}
-use Rattle.garbling.specs.Garbling.{parity_of, gate_index}
+use Rattle.garbling.specs.Garbling.{gate_index}
 
 -- Every gate reads lower wires.
 abbrev pub Lower : Wiring → Type 0

@@ -13,10 +13,11 @@ use Rattle.circuit.specs.Accepted.{Accepted}
 use Rattle.circuit.specs.Check.{table_wiring}
 use Rattle.circuit.specs.Plain.{plain_outputs}
 use Rattle.circuit.specs.Public.{public_table}
+use Rattle.gate.specs.declared.garble.SentGate.{SentGate}
 use Rattle.garbling.specs.Tape.{offset_in, drawn_for}
 use Rattle.garbling.specs.Garbling.{falses_of}
 use Rattle.garbling.specs.Marks.{Mark, marks_of}
-use Rattle.garbling.specs.Evaluation.{SentGate, evaluate_asks, output_asks}
+use Rattle.garbling.specs.Evaluation.{evaluate_asks, output_asks}
 use Rattle.circuit_laws.specs.Chance.{Opened}
 use Rattle.circuit_laws.specs.Round.{input_labels, sent_gates, labels_met}
 

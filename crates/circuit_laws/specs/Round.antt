@@ -6,9 +6,11 @@ use Rattle.label.specs.Labels.{Label}
 use Rattle.label.specs.Hashes.{HashFunction}
 use Rattle.wires.specs.Wires.{Wiring}
 use Rattle.gate.specs.Sums.{shifted}
+use Rattle.gate.specs.declared.garble.SentGate.{SentGate}
+use Rattle.gate.specs.declared.garble.GarbledGate.{GarbledGate}
 use Rattle.garbling.specs.Tape.{offset_in}
 use Rattle.garbling.specs.Garbling.{label_in, falses_of, gates_of}
-use Rattle.garbling.specs.Evaluation.{SentGate, sent, met_of}
+use Rattle.garbling.specs.Evaluation.{met_of}
 
 -- The labels of the input bits x: of bit 0 the false label, of bit 1 the true one.
 abbrev pub input_labels : Wiring → List ℕ → HashFunction → List Bool → List Label
@@ -16,7 +18,7 @@ input_labels c T f x = map (λ w. shifted halves (offset_in T) (label_in (falses
 
 -- What is sent of all garbled gates.
 abbrev pub sent_gates : Wiring → List ℕ → HashFunction → List SentGate
-sent_gates c T f = map sent (gates_of c T f)
+sent_gates c T f = map (λ (g : GarbledGate). g.sent) (gates_of c T f)
 
 -- The labels that the server meets on all wires, where it knows the circuit d.
 abbrev pub labels_met : Wiring → Wiring → List ℕ → HashFunction → List Bool → List Label

@@ -11,8 +11,9 @@ use Rattle.circuit.specs.Check.{table_wiring}
 use Rattle.circuit.specs.Public.{public_byte, public_arrays, public_table, PublicOf}
 use Rattle.circuit.proofs.Publics.{public_of_lem}
 use Rattle.circuit.proofs.Tables.{same_wiring}
+use Rattle.gate.specs.declared.garble.SentGate.{SentGate}
 use Rattle.garbling.specs.Marks.{Mark}
-use Rattle.garbling.specs.Evaluation.{SentGate, no_gate}
+use Rattle.garbling.specs.Evaluation.{no_gate}
 use Rattle.form.specs.Controls.{control_word, controls_in}
 use Rattle.form.specs.Layout.{size_bytes, ciphertext_bytes, control_bytes, gate_bytes, mark_bytes, form_of, form_length}
 use Rattle.form.specs.Read.{form_wiring, gates_stated, outputs_stated, control_word_at, gate_at, gates_in, marks_from, false_marks_in, true_marks_in, ciphertexts_from, controls_from, false_marks_from, true_marks_from}

@@ -2,8 +2,9 @@
 use Rattle.std.specs.Prelude.{◌≡◌, ℕ, ◌^◌, ◌<◌, List, length, get_or, slice_index, slice_index_or}
 use Rattle.wires.specs.Wires.{Wiring}
 use Rattle.circuit.specs.Public.{PublicOf}
+use Rattle.gate.specs.declared.garble.SentGate.{SentGate}
 use Rattle.garbling.specs.Marks.{Mark}
-use Rattle.garbling.specs.Evaluation.{SentGate, no_gate}
+use Rattle.garbling.specs.Evaluation.{no_gate}
 use Rattle.form.specs.Controls.{control_word}
 use Rattle.form.specs.Layout.{form_of, form_length}
 use Rattle.form.specs.Read.{form_wiring, gates_stated, outputs_stated, control_word_at, gates_in, false_marks_in, true_marks_in}

@@ -5,8 +5,8 @@ use Rattle.slices.specs.Little.{short_bytes, word_bytes}
 use Rattle.label.specs.Labels.{label_bytes}
 use Rattle.wires.specs.Wires.{Wiring}
 use Rattle.circuit.specs.Public.{public_arrays}
+use Rattle.gate.specs.declared.garble.SentGate.{SentGate}
 use Rattle.garbling.specs.Marks.{Mark}
-use Rattle.garbling.specs.Evaluation.{SentGate}
 use Rattle.form.specs.Controls.{control_word}
 
 -- The numbers of wires, of inputs, of garbled gates and of outputs, 16 bits each.

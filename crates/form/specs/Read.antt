@@ -4,8 +4,8 @@ use Rattle.std.specs.List.{range_with_len}
 use Rattle.slices.specs.Little.{short_at, word_at}
 use Rattle.label.specs.Labels.{label_at}
 use Rattle.wires.specs.Wires.{Wiring}
+use Rattle.gate.specs.declared.garble.SentGate.{SentGate}
 use Rattle.garbling.specs.Marks.{Mark}
-use Rattle.garbling.specs.Evaluation.{SentGate}
 use Rattle.form.specs.Controls.{controls_in}
 
 -- The public circuit of a form: its sizes, and the arrays after them.

@@ -5,15 +5,15 @@ use Rattle.label.specs.Labels.{Label}
 use Rattle.label.specs.Hashes.{HashFunction}
 use Rattle.wires.specs.Wires.{Wiring, first_at, second_at, truth_at, class_at, is_input, is_free, is_garbled}
 use Rattle.gate.specs.declared.garble.GarbledGate.{GarbledGate}
+use Rattle.gate.specs.Classes.{parity_of}
 use Rattle.gate.specs.Gates.{garbled_gate, gate_questions}
-use Rattle.garbling.specs.declared.garble.MadeWire.TheVariants.{Gate, Plain}
 use Rattle.garbling.specs.Tweaks.{gate_tweak}
 use Rattle.garbling.specs.Tape.{offset_in, dice_in}
-use Rattle.garbling.specs.Garbling.{parity_of, label_in, gate_index, false_from}
-use Rattle.garbling.specs.Steps.{made_from, made_asks, made_label}
+use Rattle.garbling.specs.Garbling.{label_in, gate_index, false_from}
+use Rattle.garbling.specs.Steps.{made_gate, made_label, made_from, made_asks}
 
 label_by_cases : (i z : Bool) (g : GarbledGate) (x s : Label)
-    → made_label (cond (not i && not z) (Gate g) (Plain (cond i x s))) ≡ cond i x (cond z s g.label)
+    → (cond (not i && not z) (made_gate g) (made_label (cond i x s))).label ≡ cond i x (cond z s g.label)
 label_by_cases true z g x s = refl
 label_by_cases false true g x s = refl
 label_by_cases false false g x s = refl
@@ -29,11 +29,11 @@ module _ (c : Wiring) (T : List ℕ) (f : HashFunction) (below : List Label) (w 
   second_read : (p : ℕ × ℕ) (a b : Label) → PairRead p a b → b ≡ label_in below (second_at c w)
   second_read p a b (pair, _, read) = read ∙ ap (λ (q : ℕ × ℕ). label_in below q.1) pair
 
-  pub made_gate : (k : ℕ) (p : ℕ × ℕ) (a b : Label) (g : GarbledGate) → is_garbled c w ≡ true → PairRead p a b
+  pub gate_made : (k : ℕ) (p : ℕ × ℕ) (a b : Label) (g : GarbledGate) → is_garbled c w ≡ true → PairRead p a b
       → g ≡ garbled_gate f (parity_of (class_at c w)) (truth_at c w) (dice_in T c.inputs k) (offset_in T) a b (gate_tweak w)
-      → Gate g ≡ made_from c T f below w k
-  made_gate k p a b g garbled read value =
-      ap Gate (value
+      → made_gate g ≡ made_from c T f below w k
+  gate_made k p a b g garbled read value =
+      ap made_gate (value
       ∙ (λ i. garbled_gate f (parity_of (class_at c w)) (truth_at c w) (dice_in T c.inputs k) (offset_in T) (first_read p a b read i) (second_read p a b read i) (gate_tweak w)))
       ∙ sym (cond-true _ _ _ garbled)
 
@@ -43,5 +43,5 @@ module _ (c : Wiring) (T : List ℕ) (f : HashFunction) (below : List Label) (w 
       (λ i. gate_questions (offset_in T) (first_read p a b read i) (second_read p a b read i) (gate_tweak w)) ∙ sym (cond-true _ _ _ garbled)
 
   -- Whatever it is, its label is the wire's false label.
-  pub made_label_lem : made_label (made_from c T f below w (gate_index c w)) ≡ false_from c T f below w
+  pub made_label_lem : (made_from c T f below w (gate_index c w)).label ≡ false_from c T f below w
   made_label_lem = label_by_cases (is_input c w) (is_free (class_at c w)) _ _ _

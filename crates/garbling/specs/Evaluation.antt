@@ -4,23 +4,16 @@ use Rattle.std.specs.List.{flat_map}
 use Rattle.label.specs.Sums.{halves}
 use Rattle.label.specs.Labels.{Label}
 use Rattle.label.specs.Hashes.{HashFunction, Question}
-use Rattle.label.specs.declared.xor.ControlPair.{ControlPair}
 use Rattle.wires.specs.Wires.{Wiring, first_at, second_at, class_at, is_input, is_free, is_output, wires_where, garbled_wires, output_wires}
-use Rattle.gate.specs.declared.garble.GarbledGate.{GarbledGate}
+use Rattle.gate.specs.declared.garble.SentGate.{SentGate}
+use Rattle.gate.specs.Classes.{parity_of}
 use Rattle.gate.specs.Sums.{sum_of}
 use Rattle.gate.specs.Gates.{three_questions, evaluated_gate}
 use Rattle.garbling.specs.Tweaks.{gate_tweak}
-use Rattle.garbling.specs.Garbling.{parity_of, label_in, gate_index}
+use Rattle.garbling.specs.Garbling.{label_in, gate_index}
 use Rattle.garbling.specs.Marks.{Mark, same_mark, mark_of, mark_questions}
 
--- What is sent of a garbled gate: three ciphertexts and five control pairs.
-pub record SentGate : Type 0 where
-  pub ciphertexts : List ℕ
-  pub controls : List ControlPair
-
-abbrev pub sent : GarbledGate → SentGate
-sent g = record { ciphertexts = g.ciphertexts; controls = g.controls }
-
+-- A gate of which nothing was sent.
 abbrev pub no_gate : SentGate
 no_gate = record { ciphertexts = []; controls = [] }
 

@@ -4,23 +4,13 @@ use Rattle.std.specs.List.{flat_map}
 use Rattle.label.specs.Sums.{halves}
 use Rattle.label.specs.Labels.{Label}
 use Rattle.label.specs.Hashes.{HashFunction, Question}
-use Rattle.wires.specs.declared.Class.{Class}
-use Rattle.wires.specs.declared.Class.TheVariants.{Free, Even as EvenClass, Odd as OddClass, Hidden as HiddenClass}
 use Rattle.wires.specs.Wires.{Wiring, first_at, second_at, truth_at, class_at, is_input, is_free, is_garbled, wires_where, garbled_wires}
-use Rattle.gate.specs.declared.views.Parity.{Parity}
-use Rattle.gate.specs.declared.views.Parity.TheVariants.{Even, Odd, Hidden}
 use Rattle.gate.specs.declared.garble.GarbledGate.{GarbledGate}
+use Rattle.gate.specs.Classes.{parity_of}
 use Rattle.gate.specs.Sums.{sum_of}
 use Rattle.gate.specs.Gates.{garbled_gate, gate_questions}
 use Rattle.garbling.specs.Tweaks.{gate_tweak}
 use Rattle.garbling.specs.Tape.{offset_in, input_in, dice_in}
-
--- The parity of a class that is garbled; free gates are not, and have none of their own.
-abbrev pub parity_of : Class → Parity
-parity_of Free = Even
-parity_of EvenClass = Even
-parity_of OddClass = Odd
-parity_of HiddenClass = Hidden
 
 -- The label of wire w in a list of labels.
 abbrev pub label_in : List Label → ℕ → Label

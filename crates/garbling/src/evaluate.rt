@@ -4,37 +4,35 @@ ghost use Rattle.std.specs.Prelude.{◌≡◌};
 ghost use Rattle.label.specs.Hashes.{Asked};
 ghost use Rattle.wires.specs.Read.{wiring_of};
 ghost use Rattle.wires.specs.Wires.{class_at};
+ghost use Rattle.gate.specs.Classes.{parity_of};
 ghost use Rattle.gate.specs.Gates.{three_questions, evaluated_gate};
 ghost use Rattle.garbling.specs.Tweaks.{gate_tweak};
-ghost use Rattle.garbling.specs.Garbling.{parity_of};
 ghost use Rattle.garbling.specs.Words.{kept_at, labels_kept};
 ghost use Rattle.garbling.specs.Steps.{met_with, met_asks};
 
-use crate::garble::{gate_tweak, parity_of};
+use crate::garble::gate_tweak;
 use crate::words::{kept, label_below};
-use gate::{evaluate_gate, free_gate};
-use label::{ControlPair, Hash, Label};
+use gate::{Parity, SentGate, evaluate_gate, free_gate};
+use label::{Hash, Label};
 use wires::Circuit;
 
 // A gate evaluated, on the labels met on its pair.
 fn evaluate_with<H: Hash>(
     hash: &mut H,
     circuit: &Circuit,
-    ciphertexts: [u64; 3],
-    controls: [ControlPair; 5],
+    sent: SentGate,
     first: Label,
     second: Label,
     wire: u16,
 ) -> Label
-    ensures value { result ≡ evaluated_gate (H.function hash.old) (parity_of (class_at (wiring_of circuit.now) wire)) ciphertexts controls first second (gate_tweak wire) }
+    ensures value { result ≡ evaluated_gate (H.function hash.old) (parity_of (class_at (wiring_of circuit.now) wire)) sent.ciphertexts sent.controls first second (gate_tweak wire) }
     ensures kept { H.function hash.new ≡ H.function hash.old }
     ensures asked { Asked H.asks (three_questions first second (gate_tweak wire)) hash.old hash.new }
 {
     evaluate_gate(
         hash,
-        parity_of(circuit.class(wire)),
-        ciphertexts,
-        controls,
+        Parity::from(circuit.class(wire)),
+        sent,
         first,
         second,
         gate_tweak(wire),
@@ -45,12 +43,11 @@ fn evaluate_with<H: Hash>(
 pub fn evaluate_wire<H: Hash>(
     hash: &mut H,
     circuit: &Circuit,
-    ciphertexts: [u64; 3],
-    controls: [ControlPair; 5],
+    sent: SentGate,
     words: &[u64],
     wire: u16,
 ) -> Label
-    ensures value { result ≡ met_with (wiring_of circuit.now) (H.function hash.old) (record { ciphertexts = ciphertexts; controls = controls }) (kept_at words.now wire) (labels_kept words.now wire) wire }
+    ensures value { result ≡ met_with (wiring_of circuit.now) (H.function hash.old) sent (kept_at words.now wire) (labels_kept words.now wire) wire }
     ensures kept { H.function hash.new ≡ H.function hash.old }
     ensures asked { Asked H.asks (met_asks (wiring_of circuit.now) (labels_kept words.now wire) wire) hash.old hash.new }
 {
@@ -63,5 +60,5 @@ pub fn evaluate_wire<H: Hash>(
     if !circuit.is_garbled(wire) {
         return free_gate(a, b);
     }
-    evaluate_with(hash, circuit, ciphertexts, controls, a, b, wire)
+    evaluate_with(hash, circuit, sent, a, b, wire)
 }

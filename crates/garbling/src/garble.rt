@@ -4,35 +4,24 @@ ghost use Rattle.std.specs.Prelude.{◌≡◌};
 ghost use Rattle.label.specs.Hashes.{Asked};
 ghost use Rattle.wires.specs.Read.{wiring_of};
 ghost use Rattle.wires.specs.Wires.{class_at, truth_at};
+ghost use Rattle.gate.specs.Classes.{parity_of};
 ghost use Rattle.gate.specs.Gates.{garbled_gate, gate_questions};
 ghost use Rattle.garbling.specs.Tweaks.{gate_tweak};
 ghost use Rattle.garbling.specs.Tape.{offset_in, dice_in};
-ghost use Rattle.garbling.specs.Garbling.{parity_of};
 ghost use Rattle.garbling.specs.Words.{labels_kept};
 ghost use Rattle.garbling.specs.Steps.{made_from, made_asks};
 
 use crate::tape::{draw_dice, draw_input, draw_offset};
 use crate::words::label_below;
-use gate::{GarbledGate, Parity, free_gate, garble_gate};
+use gate::{GarbledGate, Parity, SentGate, free_gate, garble_gate};
 use label::{Hash, Label};
-use wires::{Circuit, Class};
+use wires::Circuit;
 
-// What is made of a wire: a label alone, or a garbled gate.
+// What is made of a wire: its false label, and what is sent of its gate where that is garbled.
 #[derive(Clone, Copy)]
-pub enum MadeWire {
-    Plain(Label),
-    Gate(GarbledGate),
-}
-
-// The parity by which a class is garbled.
-pub(crate) fn parity_of(class: Class) -> Parity
-    ensures { result ≡ parity_of class }
-{
-    match class {
-        Class::Free | Class::Even => Parity::Even,
-        Class::Odd => Parity::Odd,
-        Class::Hidden => Parity::Hidden,
-    }
+pub struct MadeWire {
+    pub label: Label,
+    pub gate: Option<SentGate>,
 }
 
 // The first of a gate's three tweaks.
@@ -60,7 +49,7 @@ fn garble_with<H: Hash>(
     let dice = draw_dice(drawn, circuit.inputs, garbled);
     garble_gate(
         hash,
-        parity_of(circuit.class(wire)),
+        Parity::from(circuit.class(wire)),
         truth_table,
         dice,
         draw_offset(drawn),
@@ -84,14 +73,23 @@ pub fn garble_wire<H: Hash>(
     ensures asked { Asked H.asks (made_asks (wiring_of circuit.now) drawn.now (labels_kept words.now wire) wire) hash.old hash.new }
 {
     if circuit.is_input(wire) {
-        return MadeWire::Plain(draw_input(drawn, wire));
+        return MadeWire {
+            label: draw_input(drawn, wire),
+            gate: None,
+        };
     }
     let (first, second) = circuit.pair(wire);
     let a = label_below(words, wire, first);
     let b = label_below(words, wire, second);
     if !circuit.is_garbled(wire) {
-        return MadeWire::Plain(free_gate(a, b));
+        return MadeWire {
+            label: free_gate(a, b),
+            gate: None,
+        };
     }
     let gate = garble_with(hash, circuit, drawn, a, b, wire, garbled);
-    MadeWire::Gate(gate)
+    MadeWire {
+        label: gate.label,
+        gate: Some(gate.sent),
+    }
 }

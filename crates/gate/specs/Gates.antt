@@ -84,7 +84,7 @@ abbrev pub assembled : Parity → Truth → Dice → Label → Label → Label �
 assembled c t d Δ A B rs =
     let n : Five ℕ = garbled halves c t d Δ A B (six_words rs) in
     let k : Five ControlPair = controls pairs low_bit high_bit c t d (six_pairs rs) in
-    record { label = (n.n1, n.n2); ciphertexts = n.n3 ∷ n.n4 ∷ n.n5 ∷ []; controls = listed (trimmed_five c k) }
+    record { label = (n.n1, n.n2); sent = record { ciphertexts = n.n3 ∷ n.n4 ∷ n.n5 ∷ []; controls = listed (trimmed_five c k) } }
 
 -- Garbling: from parity, truth table, dice byte, offset, the pair's false labels, and the answers to the six questions.
 abbrev pub gate_from : Parity → ℕ → ℕ → Label → Label → Label → List Answer → GarbledGate

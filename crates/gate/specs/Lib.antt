@@ -1,4 +1,5 @@
 pub mod Views
+pub mod Classes
 pub mod Numbers
 pub mod Sums
 pub mod Gates

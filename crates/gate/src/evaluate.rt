@@ -7,7 +7,7 @@ ghost use Rattle.gate.specs.Numbers.{five_in};
 ghost use Rattle.gate.specs.Sums.{sum_of, three_in, evaluated};
 ghost use Rattle.gate.specs.Gates.{three_questions, answers_to, three_pairs, three_words, corner_from, view_from, label_from, evaluated_gate};
 
-use crate::garble::view_value;
+use crate::garble::{SentGate, view_value};
 use crate::numbers::add_back;
 use crate::views::{Parity, View};
 use label::{Answer, ControlPair, Hash, Label, Xor, colour};
@@ -82,24 +82,23 @@ fn ask_three<H: Hash>(hash: &mut H, first: Label, second: Label, tweak: u32) -> 
     [a, b, s]
 }
 
-// The label of a gate's output, from its ciphertexts and control pairs, the labels met on its pair, and the first of its three tweaks.
+// The label of a gate's output, from what was sent of it, the labels met on its pair, and the first of its three tweaks.
 pub fn evaluate_gate<H: Hash>(
     hash: &mut H,
     parity: Parity,
-    ciphertexts: [u64; 3],
-    controls: [ControlPair; 5],
+    sent: SentGate,
     first: Label,
     second: Label,
     tweak: u32,
 ) -> Label
-    ensures value { result ≡ evaluated_gate (H.function hash.old) parity ciphertexts controls first second tweak }
+    ensures value { result ≡ evaluated_gate (H.function hash.old) parity sent.ciphertexts sent.controls first second tweak }
     ensures kept { H.function hash.new ≡ H.function hash.old }
     ensures asked { Asked H.asks (three_questions first second tweak) hash.old hash.new }
 {
     let (i, j) = (colour(first), colour(second));
     let answers = ask_three(hash, first, second, tweak);
-    let view = view_from(parity, controls, answers, i, j);
-    output_label(ciphertexts, view, first, second, answers, i, j)
+    let view = view_from(parity, sent.controls, answers, i, j);
+    output_label(sent.ciphertexts, view, first, second, answers, i, j)
 }
 
 // The label of a free gate's output: the sum of its pair's, with no question asked.

@@ -13,12 +13,18 @@ use crate::numbers::gate_numbers;
 use crate::views::{Dice, Parity, Truth, View, draw_views};
 use label::{Answer, ControlPair, Hash, Label, Xor, colour};
 
-// What garbling a gate gives: its false label, three ciphertexts, five control pairs.
+// What a school sends of a garbled gate: three ciphertexts and five control pairs.
+#[derive(Clone, Copy)]
+pub struct SentGate {
+    pub ciphertexts: [u64; 3],
+    pub controls: [ControlPair; 5],
+}
+
+// What garbling a gate gives: its false label, and what is sent.
 #[derive(Clone, Copy)]
 pub struct GarbledGate {
     pub label: Label,
-    pub ciphertexts: [u64; 3],
-    pub controls: [ControlPair; 5],
+    pub sent: SentGate,
 }
 
 // A label with the offset added where the bit is set.
@@ -175,8 +181,10 @@ fn assemble(
     let numbers = control_numbers(parity, views, pairs_of(answers));
     GarbledGate {
         label: (left, right),
-        ciphertexts: [third, fourth, fifth],
-        controls: trim(parity, numbers),
+        sent: SentGate {
+            ciphertexts: [third, fourth, fifth],
+            controls: trim(parity, numbers),
+        },
     }
 }
 
@@ -219,5 +227,5 @@ pub fn garble_gate<H: Hash>(
     let a = shift(delta, first, colour(first));
     let b = shift(delta, second, colour(second));
     let answers = ask_six(hash, delta, a, b, tweak);
-    assemble(parity, truth, Dice::from_byte(dice), delta, a, b, answers)
+    assemble(parity, truth, Dice::from(dice), delta, a, b, answers)
 }

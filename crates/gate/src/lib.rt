@@ -1,12 +1,13 @@
 // One gate of the garbled circuit: garbled by a school, evaluated by the server.
 #![tactic(auto)]
 
+mod classes;
 mod evaluate;
 mod garble;
 mod numbers;
 mod views;
 
 pub use evaluate::{evaluate_gate, free_gate};
-pub use garble::{GarbledGate, garble_gate, shift};
+pub use garble::{GarbledGate, SentGate, garble_gate, shift};
 pub use numbers::{add_back, gate_numbers};
 pub use views::{Dice, Parity, Truth, View, draw_views};

@@ -61,11 +61,11 @@ impl Truth {
     }
 }
 
-impl Dice {
-    // The dice in a byte, from bit 0 up.
-    pub fn from_byte(byte: u8) -> Dice
-        ensures { result ≡ dice_of byte }
-    {
+// The dice in a byte, from bit 0 up.
+impl From<u8> for Dice {
+    ghost from_gives = { λ byte dice. dice ≡ dice_of byte };
+
+    fn from(byte: u8) -> Dice {
         Dice {
             rho1: byte % 2 == 1,
             rho2: byte / 2 % 2 == 1,

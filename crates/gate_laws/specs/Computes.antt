@@ -25,7 +25,7 @@ GateComputes =
     → (Δ A B : Label) → colour_of Δ ≡ true
     → (t : ℕ) (u v : Bool)
     → let gate : GarbledGate = garbled_gate f c g d Δ A B t in
-    evaluated_gate f c gate.ciphertexts gate.controls (shifted halves Δ A u) (shifted halves Δ B v) t
+    evaluated_gate f c gate.sent.ciphertexts gate.sent.controls (shifted halves Δ A u) (shifted halves Δ B v) t
     ≡ shifted halves Δ gate.label (truth g u v)
 
 -- The class of wires that is garbled with this parity.

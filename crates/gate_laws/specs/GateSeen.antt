@@ -17,8 +17,8 @@ abbrev pub seen : HashFunction → GarbledGate → (x y : Label) → ℕ → Gat
 seen f gate x y t =
     let rs : List Answer = answers_to f (three_questions x y t) in
     record {
-      control = five_in pairs gate.controls;
-      ciphertexts = three_in halves gate.ciphertexts;
+      control = five_in pairs gate.sent.controls;
+      ciphertexts = three_in halves gate.sent.ciphertexts;
       words = three_words rs;
       pairs = three_pairs rs;
     }

@@ -23,7 +23,7 @@ abbrev pub monday_gate : GarbledGate
 monday_gate = garbled_gate monday_hash Odd 8 0 (1, 2) (16, 32) (65, 130) 6
 
 abbrev pub monday_output : Label → Label → Label
-monday_output A B = evaluated_gate monday_hash Odd monday_gate.ciphertexts monday_gate.controls A B 6
+monday_output A B = evaluated_gate monday_hash Odd monday_gate.sent.ciphertexts monday_gate.sent.controls A B 6
 
 abbrev pub zero_pair : ControlPair
 zero_pair = record { low = false; high = false }
@@ -31,8 +31,8 @@ zero_pair = record { low = false; high = false }
 -- Its false label, ciphertexts and controls, and what the server comes to under all four pairs of answers.
 pub record MondayGate : Type 0 where
   pub label : monday_gate.label ≡ (7232, 7712)
-  pub ciphertexts : monday_gate.ciphertexts ≡ 306 ∷ 435 ∷ 482 ∷ []
-  pub controls : monday_gate.controls ≡ zero_pair ∷ zero_pair ∷ zero_pair ∷ record { low = true; high = false } ∷ zero_pair ∷ []
+  pub ciphertexts : monday_gate.sent.ciphertexts ≡ 306 ∷ 435 ∷ 482 ∷ []
+  pub controls : monday_gate.sent.controls ≡ zero_pair ∷ zero_pair ∷ zero_pair ∷ record { low = true; high = false } ∷ zero_pair ∷ []
   pub no_no : monday_output (16, 32) (65, 130) ≡ (7232, 7712)
   pub no_yes : monday_output (16, 32) (64, 128) ≡ (7232, 7712)
   pub yes_no : monday_output (17, 34) (65, 130) ≡ (7232, 7712)

@@ -18,7 +18,9 @@ ghost use Rattle.gate_laws.specs.GateSeen.{GateSeen};
 ghost use Rattle.gate_laws.specs.Matrices.{NumbersByInverse, BackByV, ValuesByM, MatrixFacts, ViewsByBasis, ControlsCompressed};
 ghost use Rattle.gate_laws.specs.Monday.{MondayGate};
 
-use gate::{GarbledGate, Parity, add_back, evaluate_gate, garble_gate, gate_numbers, shift};
+use gate::{
+    GarbledGate, Parity, SentGate, add_back, evaluate_gate, garble_gate, gate_numbers, shift,
+};
 use label::{Hash, Label, Xor};
 
 // What the server adds at two colours, from the five numbers of a gate.
@@ -50,7 +52,7 @@ pub fn value_back<T: Xor>(answers: [T; 6], left: [T; 4], right: [T; 4], i: bool,
 fn evaluate_bits<H: Hash>(
     hash: &mut H,
     parity: Parity,
-    gate: &GarbledGate,
+    sent: SentGate,
     delta: Label,
     first: Label,
     second: Label,
@@ -58,13 +60,13 @@ fn evaluate_bits<H: Hash>(
     u: bool,
     v: bool,
 ) -> Label
-    ensures value { result ≡ evaluated_gate (H.function hash.old) parity gate.now.ciphertexts gate.now.controls (shifted halves delta first u) (shifted halves delta second v) tweak }
+    ensures value { result ≡ evaluated_gate (H.function hash.old) parity sent.ciphertexts sent.controls (shifted halves delta first u) (shifted halves delta second v) tweak }
     ensures kept { H.function hash.new ≡ H.function hash.old }
     ensures asked { Asked H.asks (three_questions (shifted halves delta first u) (shifted halves delta second v) tweak) hash.old hash.new }
 {
     let a = shift(delta, first, u);
     let b = shift(delta, second, v);
-    evaluate_gate(hash, parity, gate.ciphertexts, gate.controls, a, b, tweak)
+    evaluate_gate(hash, parity, sent, a, b, tweak)
 }
 
 // A gate garbled, and evaluated on the labels of two bits: the gate, and the label that the server comes to. It is the
@@ -83,7 +85,7 @@ pub fn play_gate<H: Hash>(
     v: bool,
 ) -> (GarbledGate, Label)
     ensures gate { result.0 ≡ garbled_gate (H.function hash.old) parity truth_table dice delta first second tweak }
-    ensures value { result.1 ≡ evaluated_gate (H.function hash.old) parity result.0.ciphertexts result.0.controls (shifted halves delta first u) (shifted halves delta second v) tweak }
+    ensures value { result.1 ≡ evaluated_gate (H.function hash.old) parity result.0.sent.ciphertexts result.0.sent.controls (shifted halves delta first u) (shifted halves delta second v) tweak }
     ensures right { suits parity truth_table ≡ true → colour_of delta ≡ true → result.1 ≡ shifted halves delta result.0.label (truth truth_table u v) }
     ensures kept { H.function hash.new ≡ H.function hash.old }
     ensures asked { Asked H.asks (gate_questions delta first second tweak ++ three_questions (shifted halves delta first u) (shifted halves delta second v) tweak) hash.old hash.new }
@@ -93,6 +95,6 @@ pub fn play_gate<H: Hash>(
     ensures monday { MondayGate }
 {
     let gate = garble_gate(hash, parity, truth_table, dice, delta, first, second, tweak);
-    let output = evaluate_bits(hash, parity, &gate, delta, first, second, tweak, u, v);
+    let output = evaluate_bits(hash, parity, gate.sent, delta, first, second, tweak, u, v);
     (gate, output)
 }

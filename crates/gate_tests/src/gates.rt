@@ -24,7 +24,7 @@ fn play<H: Hash>(
     for (u, v) in [(false, false), (false, true), (true, false), (true, true)] {
         let a = shift(DELTA, first, u);
         let b = shift(DELTA, second, v);
-        let output = evaluate_gate(hash, parity, gate.ciphertexts, gate.controls, a, b, TWEAK);
+        let output = evaluate_gate(hash, parity, gate.sent, a, b, TWEAK);
         right = right && output == shift(DELTA, gate.label, look_up(table, u, v));
     }
     right

@@ -68,7 +68,7 @@ fn bits(view: View) -> (u8, u8, u8, u8) {
 // The view at two colours.
 fn view_at(i: bool, j: bool) -> View {
     let truth = Truth::by_colours(8, colour(FIRST), colour(SECOND));
-    let [v00, v01, v10, v11] = draw_views(Parity::Odd, truth, Dice::from_byte(0));
+    let [v00, v01, v10, v11] = draw_views(Parity::Odd, truth, Dice::from(0));
     match (i, j) {
         (false, false) => v00,
         (false, true) => v01,
@@ -102,8 +102,8 @@ pub(crate) fn run_monday(rt: &HostRuntime) -> io::Result<()> {
     let mut hash = AnswerTable { rows: &rows };
     let gate = garble_gate(&mut hash, Parity::Odd, 8, 0, DELTA, FIRST, SECOND, TWEAK);
     let label = gate.label;
-    let ciphertexts = gate.ciphertexts;
-    let word = control_word(gate.controls);
+    let ciphertexts = gate.sent.ciphertexts;
+    let word = control_word(gate.sent.controls);
     println!(rt;
         "Monday gate: false label {label:?}, ciphertexts {ciphertexts:?}, control word {word}"
     )?;

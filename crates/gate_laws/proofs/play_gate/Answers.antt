@@ -19,13 +19,13 @@ returns g c =
     let gate_is = c.garble_gate-gate.ensures.value in
     let value =
     c.evaluate_bits-output.ensures.value
-    ∙ (λ i. evaluated_gate (c.garble_gate-gate.ensures.kept i) a.parity gate.ciphertexts gate.controls (shifted halves a.delta a.first a.u) (shifted halves a.delta a.second a.v) a.tweak) in
+    ∙ (λ i. evaluated_gate (c.garble_gate-gate.ensures.kept i) a.parity gate.sent.ciphertexts gate.sent.controls (shifted halves a.delta a.first a.u) (shifted halves a.delta a.second a.v) a.tweak) in
     record {
       gate = gate_is;
       value = value;
       right = λ fits odd.
           value
-          ∙ (λ i. evaluated_gate f a.parity (gate_is i).ciphertexts (gate_is i).controls (shifted halves a.delta a.first a.u) (shifted halves a.delta a.second a.v) a.tweak)
+          ∙ (λ i. evaluated_gate f a.parity (gate_is i).sent.ciphertexts (gate_is i).sent.controls (shifted halves a.delta a.first a.u) (shifted halves a.delta a.second a.v) a.tweak)
           ∙ gate_computes f a.parity a.truth_table a.dice fits a.delta a.first a.second odd a.tweak a.u a.v
           ∙ (λ i. shifted halves a.delta (sym gate_is i).label (truth a.truth_table a.u a.v));
       kept = c.evaluate_bits-output.ensures.kept ∙ c.garble_gate-gate.ensures.kept;

@@ -2,7 +2,7 @@ use Rattle.std.proofs.Common.{sym, subst}
 use Rattle.label.specs.Hashes.{Asked}
 use Rattle.wires.specs.Read.{wiring_of}
 use Rattle.garbling.specs.Words.{labels_kept}
-use Rattle.garbling.proofs.Made.{PairRead, made_gate, made_asks_lem}
+use Rattle.garbling.proofs.Made.{PairRead, gate_made, made_asks_lem}
 use Rattle.garbling.proofs.garble.garble_wire.Goals as goal
 
 pub returns : goal.returns
@@ -16,7 +16,7 @@ returns g c =
     let garbled = sym c.if-not-is_garbled.ensures in
     let read : PairRead circuit c.args.drawn.now f below c.args.wire p a b = (c.pair-first.ensures, c.label_below-a.ensures, c.label_below-b.ensures) in
     record {
-      value = made_gate circuit c.args.drawn.now f below c.args.wire c.args.garbled p a b c.garble_with-gate.result garbled read c.garble_with-gate.ensures.value;
+      value = gate_made circuit c.args.drawn.now f below c.args.wire c.args.garbled p a b c.garble_with-gate.result garbled read c.garble_with-gate.ensures.value;
       kept = c.garble_with-gate.ensures.kept;
       asked = subst (λ qs. Asked g.H.Hash.asks qs c.args.hash.now c.garble_with-gate.new.hash)
           (made_asks_lem circuit c.args.drawn.now f below c.args.wire p a b garbled read) c.garble_with-gate.ensures.asked;
