@@ -1,5 +1,5 @@
 -- From eight values to five numbers and back, over any group: one text for halves of labels and for control pairs.
-use Rattle.std.specs.Prelude.{Bool, true, false, cond, List, [], ◌∷◌, get_or}
+use Rattle.std.specs.Prelude.{Bool, true, false, cond, List, [], ◌∷◌, map, get_or}
 use Rattle.label.specs.Sums.{Group, ◌⊻◌}
 
 pub record Five (E : Type 0) : Type 0 where
@@ -69,8 +69,12 @@ module _ (X : Group) where
   abbrev pub value_in : List X.El → Bool → Bool → X.El
   value_in vs i j = get_or vs (cond i (cond j 3 2) (cond j 1 0)) X.o
 
-  abbrev pub four_of : (Bool → Bool → X.El) → List X.El
-  four_of v = v false false ∷ v false true ∷ v true false ∷ v true true ∷ []
+  -- The same of four pairs of values: their left parts, and their right ones.
+  abbrev pub left_in : List (X.El × X.El) → Bool → Bool → X.El
+  left_in vs = value_in (map (λ (v : X.El × X.El). v.0) vs)
+
+  abbrev pub right_in : List (X.El × X.El) → Bool → Bool → X.El
+  right_in vs = value_in (map (λ (v : X.El × X.El). v.1) vs)
 
   abbrev pub five_in : List X.El → Five X.El
   five_in ns = record { n1 = get_or ns 0 X.o; n2 = get_or ns 1 X.o; n3 = get_or ns 2 X.o; n4 = get_or ns 3 X.o; n5 = get_or ns 4 X.o }

@@ -5,45 +5,32 @@ ghost use Rattle.label.specs.Sums.{halves, pairs};
 ghost use Rattle.label.specs.Hashes.{Asked};
 ghost use Rattle.gate.specs.Numbers.{five_in};
 ghost use Rattle.gate.specs.Sums.{sum_of, three_in, evaluated};
-ghost use Rattle.gate.specs.Gates.{three_questions, answers_to, three_pairs, three_words, corner_from, view_from, label_from, evaluated_gate};
+ghost use Rattle.gate.specs.Gates.{three_questions, answers_to, three_pairs, three_words, view_from, evaluated_gate};
 
-use crate::garble::{SentGate, view_value};
+use crate::garble::SentGate;
+use crate::labels::{Colours, LabelPair};
 use crate::numbers::add_back;
 use crate::views::{Parity, View};
-use label::{Answer, ControlPair, Hash, Label, Xor, colour};
-
-impl Parity {
-    // γ or ε of a view, from a high control bit and the colour: public in an odd gate, read from the controls in a hidden one.
-    fn corner_from(self, high: bool, colour: bool) -> bool
-        ensures { result ≡ corner_from self high colour }
-    {
-        match self {
-            Parity::Even => false,
-            Parity::Odd => !colour,
-            Parity::Hidden => high,
-        }
-    }
-}
+use label::{Answer, ControlPair, Hash, Label, Xor};
 
 // The view, from the control numbers and the pairs met.
 fn view_from(
     parity: Parity,
     controls: [ControlPair; 5],
     answers: [Answer; 3],
-    i: bool,
-    j: bool,
+    colours: Colours,
 ) -> View
-    ensures { result ≡ view_from parity (five_in pairs controls) (three_pairs answers) i j }
+    ensures { result ≡ view_from parity (five_in pairs controls) (three_pairs answers) colours.0 colours.1 }
 {
     let [a, b, s] = answers;
-    let (left, right) = add_back(controls, i, j);
+    let (left, right) = add_back(controls, colours);
     let left = left.xor(a.pair).xor(s.pair);
     let right = right.xor(b.pair).xor(s.pair);
     View {
         alpha: left.low,
         beta: right.low,
-        gamma: parity.corner_from(left.high, i),
-        epsilon: parity.corner_from(right.high, j),
+        gamma: parity.corner(left.high, colours.0),
+        epsilon: parity.corner(right.high, colours.1),
     }
 }
 
@@ -51,18 +38,16 @@ fn view_from(
 fn output_label(
     ciphertexts: [u64; 3],
     view: View,
-    first: Label,
-    second: Label,
+    labels: LabelPair,
     answers: [Answer; 3],
-    i: bool,
-    j: bool,
+    colours: Colours,
 ) -> Label
-    ensures { result ≡ evaluated halves (three_in halves ciphertexts) view first second (three_words answers) i j }
+    ensures { result ≡ evaluated halves (three_in halves ciphertexts) view labels.first labels.second (three_words answers) colours.0 colours.1 }
 {
     let [third, fourth, fifth] = ciphertexts;
     let [a, b, s] = answers;
-    let (left, right) = add_back([0, 0, third, fourth, fifth], i, j);
-    let (view_left, view_right) = view_value(view, first, second);
+    let (left, right) = add_back([0, 0, third, fourth, fifth], colours);
+    let (view_left, view_right) = view.value(labels);
     (
         left.xor(a.word).xor(s.word).xor(view_left),
         right.xor(b.word).xor(s.word).xor(view_right),
@@ -70,14 +55,14 @@ fn output_label(
 }
 
 // The three answers that the server meets, in the order asked.
-fn ask_three<H: Hash>(hash: &mut H, first: Label, second: Label, tweak: u32) -> [Answer; 3]
-    ensures value { result ≡ answers_to (H.function hash.old) (three_questions first second tweak) }
+fn ask_three<H: Hash>(hash: &mut H, labels: LabelPair, tweak: u32) -> [Answer; 3]
+    ensures value { result ≡ answers_to (H.function hash.old) (three_questions labels.first labels.second tweak) }
     ensures kept { H.function hash.new ≡ H.function hash.old }
-    ensures asked { Asked H.asks (three_questions first second tweak) hash.old hash.new }
+    ensures asked { Asked H.asks (three_questions labels.first labels.second tweak) hash.old hash.new }
 {
-    let sum = first.xor(second);
-    let a = hash.query(first, tweak);
-    let b = hash.query(second, tweak.wrapping_add(1));
+    let sum = labels.sum();
+    let a = hash.query(labels.first, tweak);
+    let b = hash.query(labels.second, tweak.wrapping_add(1));
     let s = hash.query(sum, tweak.wrapping_add(2));
     [a, b, s]
 }
@@ -87,23 +72,22 @@ pub fn evaluate_gate<H: Hash>(
     hash: &mut H,
     parity: Parity,
     sent: SentGate,
-    first: Label,
-    second: Label,
+    labels: LabelPair,
     tweak: u32,
 ) -> Label
-    ensures value { result ≡ evaluated_gate (H.function hash.old) parity sent.ciphertexts sent.controls first second tweak }
+    ensures value { result ≡ evaluated_gate (H.function hash.old) parity sent.ciphertexts sent.controls labels.first labels.second tweak }
     ensures kept { H.function hash.new ≡ H.function hash.old }
-    ensures asked { Asked H.asks (three_questions first second tweak) hash.old hash.new }
+    ensures asked { Asked H.asks (three_questions labels.first labels.second tweak) hash.old hash.new }
 {
-    let (i, j) = (colour(first), colour(second));
-    let answers = ask_three(hash, first, second, tweak);
-    let view = view_from(parity, sent.controls, answers, i, j);
-    output_label(sent.ciphertexts, view, first, second, answers, i, j)
+    let colours = labels.colours();
+    let answers = ask_three(hash, labels, tweak);
+    let view = view_from(parity, sent.controls, answers, colours);
+    output_label(sent.ciphertexts, view, labels, answers, colours)
 }
 
 // The label of a free gate's output: the sum of its pair's, with no question asked.
-pub fn free_gate(first: Label, second: Label) -> Label
-    ensures { result ≡ sum_of halves first second }
+pub fn free_gate(labels: LabelPair) -> Label
+    ensures { result ≡ sum_of halves labels.first labels.second }
 {
-    first.xor(second)
+    labels.sum()
 }
