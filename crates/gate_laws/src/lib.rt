@@ -7,7 +7,7 @@ ghost use Rattle.label.specs.Labels.{colour_of};
 ghost use Rattle.label.specs.Sums.{group, halves};
 ghost use Rattle.wires.specs.Wires.{truth};
 ghost use Rattle.gate.specs.Gates.{garbled_gate, evaluated_gate, gate_questions, three_questions};
-ghost use Rattle.gate.specs.Numbers.{mixed, back_left, back_right, value_in, six_in};
+ghost use Rattle.gate.specs.Numbers.{mixed, back_left, back_right, left_in, right_in, six_in};
 ghost use Rattle.gate.specs.Sums.{shifted};
 ghost use Rattle.gate_laws.specs.GateSpace.{GateSpace};
 ghost use Rattle.gate_laws.specs.GateLaw.{GateLaw};
@@ -19,22 +19,15 @@ ghost use Rattle.gate_laws.specs.Matrices.{NumbersByInverse, BackByV, ValuesByM,
 ghost use Rattle.gate_laws.specs.Monday.{MondayGate};
 
 use gate::{
-    GarbledGate, Parity, SentGate, add_back, evaluate_gate, garble_gate, gate_numbers, shift,
+    Colours, GarbledGate, LabelPair, Parity, add_back, evaluate_gate, garble_gate, gate_numbers,
 };
 use label::{Hash, Label, Xor};
-
-// What the server adds at two colours, from the five numbers of a gate.
-fn added_back<T: Xor>(answers: [T; 6], left: [T; 4], right: [T; 4], i: bool, j: bool) -> (T, T)
-    ensures { result ≡ (back_left (group T.plus T.nought) (mixed (group T.plus T.nought) (six_in (group T.plus T.nought) answers) (value_in (group T.plus T.nought) left) (value_in (group T.plus T.nought) right)) i j, back_right (group T.plus T.nought) (mixed (group T.plus T.nought) (six_in (group T.plus T.nought) answers) (value_in (group T.plus T.nought) left) (value_in (group T.plus T.nought) right)) i j) }
-{
-    add_back(gate_numbers(answers, left, right), i, j)
-}
 
 // What the server adds at two colours, from the five numbers of a gate. For every sum: the values of a garbled gate come
 // back so, evaluating comes to the label of the truth value, the controls give the view, and all of it is the products
 // with the scheme's matrices.
-pub fn value_back<T: Xor>(answers: [T; 6], left: [T; 4], right: [T; 4], i: bool, j: bool) -> (T, T)
-    ensures value { result ≡ (back_left (group T.plus T.nought) (mixed (group T.plus T.nought) (six_in (group T.plus T.nought) answers) (value_in (group T.plus T.nought) left) (value_in (group T.plus T.nought) right)) i j, back_right (group T.plus T.nought) (mixed (group T.plus T.nought) (six_in (group T.plus T.nought) answers) (value_in (group T.plus T.nought) left) (value_in (group T.plus T.nought) right)) i j) }
+pub fn value_back<T: Xor>(answers: [T; 6], added: [(T, T); 4], colours: Colours) -> (T, T)
+    ensures value { result ≡ (back_left (group T.plus T.nought) (mixed (group T.plus T.nought) (six_in (group T.plus T.nought) answers) (left_in (group T.plus T.nought) added) (right_in (group T.plus T.nought) added)) colours.0 colours.1, back_right (group T.plus T.nought) (mixed (group T.plus T.nought) (six_in (group T.plus T.nought) answers) (left_in (group T.plus T.nought) added) (right_in (group T.plus T.nought) added)) colours.0 colours.1) }
     ensures space { GateSpace (group T.plus T.nought) }
     ensures law { GateLaw (group T.plus T.nought) }
     ensures controls { ControlLaw (group T.plus T.nought) }
@@ -45,28 +38,7 @@ pub fn value_back<T: Xor>(answers: [T; 6], left: [T; 4], right: [T; 4], i: bool,
     ensures compressed { ControlsCompressed (group T.plus T.nought) }
     ensures facts { MatrixFacts }
 {
-    added_back(answers, left, right, i, j)
-}
-
-// A garbled gate evaluated on the labels of two bits.
-fn evaluate_bits<H: Hash>(
-    hash: &mut H,
-    parity: Parity,
-    sent: SentGate,
-    delta: Label,
-    first: Label,
-    second: Label,
-    tweak: u32,
-    u: bool,
-    v: bool,
-) -> Label
-    ensures value { result ≡ evaluated_gate (H.function hash.old) parity sent.ciphertexts sent.controls (shifted halves delta first u) (shifted halves delta second v) tweak }
-    ensures kept { H.function hash.new ≡ H.function hash.old }
-    ensures asked { Asked H.asks (three_questions (shifted halves delta first u) (shifted halves delta second v) tweak) hash.old hash.new }
-{
-    let a = shift(delta, first, u);
-    let b = shift(delta, second, v);
-    evaluate_gate(hash, parity, sent, a, b, tweak)
+    add_back(gate_numbers(answers, added), colours)
 }
 
 // A gate garbled, and evaluated on the labels of two bits: the gate, and the label that the server comes to. It is the
@@ -78,23 +50,22 @@ pub fn play_gate<H: Hash>(
     truth_table: u8,
     dice: u8,
     delta: Label,
-    first: Label,
-    second: Label,
+    labels: LabelPair,
     tweak: u32,
-    u: bool,
-    v: bool,
+    bits: (bool, bool),
 ) -> (GarbledGate, Label)
-    ensures gate { result.0 ≡ garbled_gate (H.function hash.old) parity truth_table dice delta first second tweak }
-    ensures value { result.1 ≡ evaluated_gate (H.function hash.old) parity result.0.sent.ciphertexts result.0.sent.controls (shifted halves delta first u) (shifted halves delta second v) tweak }
-    ensures right { suits parity truth_table ≡ true → colour_of delta ≡ true → result.1 ≡ shifted halves delta result.0.label (truth truth_table u v) }
+    ensures gate { result.0 ≡ garbled_gate (H.function hash.old) parity truth_table dice delta labels.first labels.second tweak }
+    ensures value { result.1 ≡ evaluated_gate (H.function hash.old) parity result.0.sent.ciphertexts result.0.sent.controls (shifted halves delta labels.first bits.0) (shifted halves delta labels.second bits.1) tweak }
+    ensures right { suits parity truth_table ≡ true → colour_of delta ≡ true → result.1 ≡ shifted halves delta result.0.label (truth truth_table bits.0 bits.1) }
     ensures kept { H.function hash.new ≡ H.function hash.old }
-    ensures asked { Asked H.asks (gate_questions delta first second tweak ++ three_questions (shifted halves delta first u) (shifted halves delta second v) tweak) hash.old hash.new }
+    ensures asked { Asked H.asks (gate_questions delta labels.first labels.second tweak ++ three_questions (shifted halves delta labels.first bits.0) (shifted halves delta labels.second bits.1) tweak) hash.old hash.new }
     ensures allowed { AllowedSuits }
     ensures seen { GateSeen }
     ensures blind { GateBlind }
     ensures monday { MondayGate }
 {
-    let gate = garble_gate(hash, parity, truth_table, dice, delta, first, second, tweak);
-    let output = evaluate_bits(hash, parity, gate.sent, delta, first, second, tweak, u, v);
+    let gate = garble_gate(hash, parity, truth_table, dice, delta, labels, tweak);
+    let met = labels.shifted(delta, bits);
+    let output = evaluate_gate(hash, parity, gate.sent, met, tweak);
     (gate, output)
 }
