@@ -12,13 +12,6 @@ ghost use Rattle.circuit_laws.specs.MondayRound.{MondayRound};
 use gate::shift;
 use label::Label;
 
-// Three rows for each wire, two more for each at the end, and two between.
-fn count_rows(wires: u16) -> u32
-    ensures { result ≡ rows_for wires }
-{
-    5 * u32::from(wires) + 2
-}
-
 // How many rows an answer table needs for a circuit of so many wires. With that many, each view of the server has equally
 // many causes under any two secrets with one public table and equal outputs; and there is a round that meets all premises.
 pub fn rows_wanted(wires: u16) -> u32
@@ -26,14 +19,8 @@ pub fn rows_wanted(wires: u16) -> u32
     ensures blind { CircuitBlind }
     ensures monday { MondayRound }
 {
-    count_rows(wires)
-}
-
-// The false label, or the true one.
-fn pick_label(delta: Label, false_label: Label, bit: bool) -> Label
-    ensures { result ≡ shifted halves delta false_label bit }
-{
-    shift(delta, false_label, bit)
+    // Three for each wire, two more for each at the end, and two between.
+    5 * u32::from(wires) + 2
 }
 
 // The label of a bit, from the offset and the false label. On the labels of its input bits a circuit is evaluated to the
@@ -42,5 +29,5 @@ pub fn label_of(delta: Label, false_label: Label, bit: bool) -> Label
     ensures value { result ≡ shifted halves delta false_label bit }
     ensures computes { CircuitComputes }
 {
-    pick_label(delta, false_label, bit)
+    shift(delta, false_label, bit)
 }

@@ -7,20 +7,15 @@ ghost use Rattle.form.specs.Layout.{form_length, ciphertext_bytes};
 ghost use Rattle.form.specs.Back.{FormBack};
 
 use label::ControlPair;
+use std::array::from_fn;
 
-// The sizes, the arrays, the gates and the marks, one after the other.
-fn parts_length(wires: u16, garbled: u16, outputs: u16) -> usize
-    ensures { result ≡ form_length wires garbled outputs }
-{
-    8 + 5 * usize::from(wires) + 26 * usize::from(garbled) + 32 * usize::from(outputs)
-}
-
-// The length of a form, for this many wires, garbled gates and outputs; a form of that length is read back as it was written.
+// The length of a form, for this many wires, garbled gates and outputs: the sizes, the arrays, the gates and the marks, one
+// after the other. A form of that length is read back as it was written.
 pub fn form_length(wires: u16, garbled: u16, outputs: u16) -> usize
     ensures value { result ≡ form_length wires garbled outputs }
     ensures back { FormBack }
 {
-    parts_length(wires, garbled, outputs)
+    8 + 5 * usize::from(wires) + 26 * usize::from(garbled) + 32 * usize::from(outputs)
 }
 
 // The number of a control pair.
@@ -35,16 +30,12 @@ fn pair_number(pair: ControlPair) -> u16
 pub fn control_word(controls: [ControlPair; 5]) -> u16
     ensures { result ≡ control_word controls }
 {
-    let [a, b, c, d, e] = controls;
-    pair_number(a)
-        + 4 * pair_number(b)
-        + 16 * pair_number(c)
-        + 64 * pair_number(d)
-        + 256 * pair_number(e)
+    let [a, b, c, d, e] = controls.map(pair_number);
+    a + 4 * b + 16 * c + 64 * d + 256 * e
 }
 
 // A control pair of a control word.
-fn pair_in(word: u16, e: u8) -> ControlPair
+fn pair_in(word: u16, e: usize) -> ControlPair
     requires { e < 5 }
     ensures { result ≡ pair_in word e }
 {
@@ -58,25 +49,17 @@ fn pair_in(word: u16, e: u8) -> ControlPair
 pub fn controls_of(word: u16) -> [ControlPair; 5]
     ensures { result ≡ controls_in word }
 {
-    [
-        pair_in(word, 0),
-        pair_in(word, 1),
-        pair_in(word, 2),
-        pair_in(word, 3),
-        pair_in(word, 4),
-    ]
+    from_fn(|e| pair_in(word, e))
 }
 
 // The bytes of three ciphertexts.
 pub fn ciphertext_bytes(ciphertexts: [u64; 3]) -> [u8; 24]
     ensures { result ≡ ciphertext_bytes (record { ciphertexts = ciphertexts; controls = [] }) }
 {
-    let [a, b, c] = ciphertexts;
-    let [a0, a1, a2, a3, a4, a5, a6, a7] = a.to_le_bytes();
-    let [b0, b1, b2, b3, b4, b5, b6, b7] = b.to_le_bytes();
-    let [c0, c1, c2, c3, c4, c5, c6, c7] = c.to_le_bytes();
-    [
-        a0, a1, a2, a3, a4, a5, a6, a7, b0, b1, b2, b3, b4, b5, b6, b7, c0, c1, c2, c3, c4, c5, c6,
-        c7,
-    ]
+    let [a, b, c] = ciphertexts.map(u64::to_le_bytes);
+    let mut bytes = [0; 24];
+    bytes[..8].copy_from_slice(&a);
+    bytes[8..16].copy_from_slice(&b);
+    bytes[16..].copy_from_slice(&c);
+    bytes
 }

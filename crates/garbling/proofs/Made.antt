@@ -19,29 +19,6 @@ label_by_cases false true g x s = refl
 label_by_cases false false g x s = refl
 
 module _ (c : Wiring) (T : List ℕ) (f : HashFunction) (below : List Label) (w : ℕ) where
-  -- The labels that were read are those of the pair.
-  abbrev pub PairRead : ℕ × ℕ → Label → Label → Type 0
-  PairRead p a b = (p ≡ (first_at c w, second_at c w)) × (a ≡ label_in below p.0) × (b ≡ label_in below p.1)
-
-  first_read : (p : ℕ × ℕ) (a b : Label) → PairRead p a b → a ≡ label_in below (first_at c w)
-  first_read p a b (pair, read, _) = read ∙ ap (λ (q : ℕ × ℕ). label_in below q.0) pair
-
-  second_read : (p : ℕ × ℕ) (a b : Label) → PairRead p a b → b ≡ label_in below (second_at c w)
-  second_read p a b (pair, _, read) = read ∙ ap (λ (q : ℕ × ℕ). label_in below q.1) pair
-
-  pub gate_made : (k : ℕ) (p : ℕ × ℕ) (a b : Label) (g : GarbledGate) → is_garbled c w ≡ true → PairRead p a b
-      → g ≡ garbled_gate f (parity_of (class_at c w)) (truth_at c w) (dice_in T c.inputs k) (offset_in T) a b (gate_tweak w)
-      → made_gate g ≡ made_from c T f below w k
-  gate_made k p a b g garbled read value =
-      ap made_gate (value
-      ∙ (λ i. garbled_gate f (parity_of (class_at c w)) (truth_at c w) (dice_in T c.inputs k) (offset_in T) (first_read p a b read i) (second_read p a b read i) (gate_tweak w)))
-      ∙ sym (cond-true _ _ _ garbled)
-
-  pub made_asks_lem : (p : ℕ × ℕ) (a b : Label) → is_garbled c w ≡ true → PairRead p a b
-      → gate_questions (offset_in T) a b (gate_tweak w) ≡ made_asks c T below w
-  made_asks_lem p a b garbled read =
-      (λ i. gate_questions (offset_in T) (first_read p a b read i) (second_read p a b read i) (gate_tweak w)) ∙ sym (cond-true _ _ _ garbled)
-
   -- Whatever it is, its label is the wire's false label.
   pub made_label_lem : (made_from c T f below w (gate_index c w)).label ≡ false_from c T f below w
   made_label_lem = label_by_cases (is_input c w) (is_free (class_at c w)) _ _ _

@@ -11,8 +11,8 @@ ghost use Rattle.garbling.specs.Words.{kept_at, labels_kept};
 ghost use Rattle.garbling.specs.Steps.{met_with, met_asks};
 
 use crate::garble::gate_tweak;
-use crate::words::{kept, label_below};
-use gate::{Parity, SentGate, evaluate_gate, free_gate};
+use crate::words::{kept, labels_below};
+use gate::{LabelPair, Parity, SentGate, evaluate_gate, free_gate};
 use label::{Hash, Label};
 use wires::Circuit;
 
@@ -21,22 +21,15 @@ fn evaluate_with<H: Hash>(
     hash: &mut H,
     circuit: &Circuit,
     sent: SentGate,
-    first: Label,
-    second: Label,
+    labels: LabelPair,
     wire: u16,
 ) -> Label
-    ensures value { result ≡ evaluated_gate (H.function hash.old) (parity_of (class_at (wiring_of circuit.now) wire)) sent.ciphertexts sent.controls first second (gate_tweak wire) }
+    ensures value { result ≡ evaluated_gate (H.function hash.old) (parity_of (class_at (wiring_of circuit.now) wire)) sent.ciphertexts sent.controls labels.first labels.second (gate_tweak wire) }
     ensures kept { H.function hash.new ≡ H.function hash.old }
-    ensures asked { Asked H.asks (three_questions first second (gate_tweak wire)) hash.old hash.new }
+    ensures asked { Asked H.asks (three_questions labels.first labels.second (gate_tweak wire)) hash.old hash.new }
 {
-    evaluate_gate(
-        hash,
-        Parity::from(circuit.class(wire)),
-        sent,
-        first,
-        second,
-        gate_tweak(wire),
-    )
+    let parity = Parity::from(circuit.class(wire));
+    evaluate_gate(hash, parity, sent, labels, gate_tweak(wire))
 }
 
 // The label met on a wire, from the labels kept of those below and the gate that was sent for it; an input has the label kept for it.
@@ -54,11 +47,9 @@ pub fn evaluate_wire<H: Hash>(
     if circuit.is_input(wire) {
         return kept(words, wire);
     }
-    let (first, second) = circuit.pair(wire);
-    let a = label_below(words, wire, first);
-    let b = label_below(words, wire, second);
+    let labels = labels_below(circuit, words, wire);
     if !circuit.is_garbled(wire) {
-        return free_gate(a, b);
+        return free_gate(labels);
     }
-    evaluate_with(hash, circuit, sent, a, b, wire)
+    evaluate_with(hash, circuit, sent, labels, wire)
 }

@@ -12,8 +12,8 @@ ghost use Rattle.garbling.specs.Words.{labels_kept};
 ghost use Rattle.garbling.specs.Steps.{made_from, made_asks};
 
 use crate::tape::{draw_dice, draw_input, draw_offset};
-use crate::words::label_below;
-use gate::{GarbledGate, Parity, SentGate, free_gate, garble_gate};
+use crate::words::labels_below;
+use gate::{GarbledGate, LabelPair, Parity, SentGate, free_gate, garble_gate};
 use label::{Hash, Label};
 use wires::Circuit;
 
@@ -36,25 +36,25 @@ fn garble_with<H: Hash>(
     hash: &mut H,
     circuit: &Circuit,
     drawn: &[u8],
-    first: Label,
-    second: Label,
+    labels: LabelPair,
     wire: u16,
     garbled: u16,
 ) -> GarbledGate
-    ensures value { result ≡ garbled_gate (H.function hash.old) (parity_of (class_at (wiring_of circuit.now) wire)) (truth_at (wiring_of circuit.now) wire) (dice_in drawn.now circuit.now.inputs garbled) (offset_in drawn.now) first second (gate_tweak wire) }
+    ensures value { result ≡ garbled_gate (H.function hash.old) (parity_of (class_at (wiring_of circuit.now) wire)) (truth_at (wiring_of circuit.now) wire) (dice_in drawn.now circuit.now.inputs garbled) (offset_in drawn.now) labels.first labels.second (gate_tweak wire) }
     ensures kept { H.function hash.new ≡ H.function hash.old }
-    ensures asked { Asked H.asks (gate_questions (offset_in drawn.now) first second (gate_tweak wire)) hash.old hash.new }
+    ensures asked { Asked H.asks (gate_questions (offset_in drawn.now) labels.first labels.second (gate_tweak wire)) hash.old hash.new }
 {
+    let parity = Parity::from(circuit.class(wire));
     let truth_table = circuit.truth_table(wire);
     let dice = draw_dice(drawn, circuit.inputs, garbled);
+    let delta = draw_offset(drawn);
     garble_gate(
         hash,
-        Parity::from(circuit.class(wire)),
+        parity,
         truth_table,
         dice,
-        draw_offset(drawn),
-        first,
-        second,
+        delta,
+        labels,
         gate_tweak(wire),
     )
 }
@@ -78,16 +78,14 @@ pub fn garble_wire<H: Hash>(
             gate: None,
         };
     }
-    let (first, second) = circuit.pair(wire);
-    let a = label_below(words, wire, first);
-    let b = label_below(words, wire, second);
+    let labels = labels_below(circuit, words, wire);
     if !circuit.is_garbled(wire) {
         return MadeWire {
-            label: free_gate(a, b),
+            label: free_gate(labels),
             gate: None,
         };
     }
-    let gate = garble_with(hash, circuit, drawn, a, b, wire, garbled);
+    let gate = garble_with(hash, circuit, drawn, labels, wire, garbled);
     MadeWire {
         label: gate.label,
         gate: Some(gate.sent),

@@ -54,5 +54,5 @@ pub fn query_marks<H: Hash>(
 pub fn same_mark(a: Mark, b: Mark) -> bool
     ensures { result ≡ same_mark a b }
 {
-    a.0 == b.0 && a.1 == b.1
+    a == b
 }

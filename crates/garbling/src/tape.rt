@@ -33,8 +33,9 @@ pub(crate) fn draw_input(drawn: &[u8], wire: u16) -> Label
     ensures { result ≡ input_in drawn.now wire }
 {
     let at = 16 + 17 * u32::from(wire);
+    // Word by word, for `label_at` takes places of 16 bits, and this one may be larger.
     let label = (word_at(drawn, at), word_at(drawn, at + 8));
-    let permute = item_or(drawn, at as usize + 16, 0) % 2 == 1;
+    let permute = item_or(drawn, 32 + 17 * usize::from(wire), 0) % 2 == 1;
     shift(draw_offset(drawn), set_colour(label, false), permute)
 }
 

@@ -1,5 +1,5 @@
 use Rattle.form.proofs.Backs.{form_back}
 use Rattle.form.proofs.form_length.Goals as goal
 
-pub returns : goal.returns
-returns c = record { value = c.parts_length.ensures; back = form_back }
+pub returns-clause-back : goal.returns-clause-back
+returns-clause-back c = form_back
