@@ -1,7 +1,7 @@
 // Every truth table of each class, with all dice and all pairs of bits: what the server comes to is the label of the truth value.
 
 use chacha::ChaChaHash;
-use gate::{Parity, evaluate_gate, free_gate, garble_gate, shift};
+use gate::{LabelPair, Parity, evaluate_gate, free_gate, garble_gate, shift};
 use label::Hash;
 use std::test::Fail;
 use wires::{Class, look_up};
@@ -19,12 +19,12 @@ fn play<H: Hash>(
     first: (u64, u64),
     second: (u64, u64),
 ) -> bool {
-    let gate = garble_gate(hash, parity, table, dice, DELTA, first, second, TWEAK);
+    let labels = LabelPair { first, second };
+    let gate = garble_gate(hash, parity, table, dice, DELTA, labels, TWEAK);
     let mut right = true;
     for (u, v) in [(false, false), (false, true), (true, false), (true, true)] {
-        let a = shift(DELTA, first, u);
-        let b = shift(DELTA, second, v);
-        let output = evaluate_gate(hash, parity, gate.sent, a, b, TWEAK);
+        let met = labels.shifted(DELTA, (u, v));
+        let output = evaluate_gate(hash, parity, gate.sent, met, TWEAK);
         right = right && output == shift(DELTA, gate.label, look_up(table, u, v));
     }
     right
@@ -66,5 +66,9 @@ fn one_wire_twice(rt: HostRuntime) -> Result<(), Fail> {
 
 #[test]
 fn free_gates(rt: HostRuntime) {
-    assert_eq!(rt; free_gate((12, 34), (56, 78)), (52, 108));
+    let labels = LabelPair {
+        first: (12, 34),
+        second: (56, 78),
+    };
+    assert_eq!(rt; free_gate(labels), (52, 108));
 }

@@ -1,15 +1,16 @@
 // The gate of the Monday round, an AND of one wire a side: garbled once, evaluated under all four pairs of answers.
 
-use gate::{Dice, Parity, Truth, View, draw_views, garble_gate, shift};
+use gate::{Colours, Dice, Gate, LabelPair, Parity, Truth, View, draw_views, garble_gate, shift};
 use gate_laws::play_gate;
-use label::{Answer, AnswerTable, ControlPair, Row, colour};
+use label::{Answer, AnswerTable, ControlPair, Row};
 use std::io;
 
 const DELTA: (u64, u64) = (1, 2);
 
-const FIRST: (u64, u64) = (16, 32);
-
-const SECOND: (u64, u64) = (65, 130);
+const LABELS: LabelPair = LabelPair {
+    first: (16, 32),
+    second: (65, 130),
+};
 
 const TWEAK: u32 = 6;
 
@@ -66,10 +67,14 @@ fn bits(view: View) -> (u8, u8, u8, u8) {
 }
 
 // The view at two colours.
-fn view_at(i: bool, j: bool) -> View {
-    let truth = Truth::by_colours(8, colour(FIRST), colour(SECOND));
-    let [v00, v01, v10, v11] = draw_views(Parity::Odd, truth, Dice::from(0));
-    match (i, j) {
+fn view_at(colours: Colours) -> View {
+    let gate = Gate {
+        parity: Parity::Odd,
+        truth: Truth::by_colours(8, LABELS.colours()),
+        dice: Dice::from(0),
+    };
+    let [v00, v01, v10, v11] = draw_views(gate);
+    match colours {
         (false, false) => v00,
         (false, true) => v01,
         (true, false) => v10,
@@ -79,11 +84,12 @@ fn view_at(i: bool, j: bool) -> View {
 
 // One pair of answers: the labels met, their colours, the view there, the output label, and the bit that it stands for.
 fn play(rt: &HostRuntime, hash: &mut AnswerTable, u: bool, v: bool) -> io::Result<()> {
-    let (gate, output) = play_gate(hash, Parity::Odd, 8, 0, DELTA, FIRST, SECOND, TWEAK, u, v);
-    let first = shift(DELTA, FIRST, u);
-    let second = shift(DELTA, SECOND, v);
-    let view = bits(view_at(colour(first), colour(second)));
-    let (i, j) = (u8::from(colour(first)), u8::from(colour(second)));
+    let (gate, output) = play_gate(hash, Parity::Odd, 8, 0, DELTA, LABELS, TWEAK, (u, v));
+    let met = LABELS.shifted(DELTA, (u, v));
+    let LabelPair { first, second } = met;
+    let view = bits(view_at(met.colours()));
+    let (i, j) = met.colours();
+    let (i, j) = (u8::from(i), u8::from(j));
     let result = if output == gate.label {
         "0"
     } else if output == shift(DELTA, gate.label, true) {
@@ -100,7 +106,7 @@ fn play(rt: &HostRuntime, hash: &mut AnswerTable, u: bool, v: bool) -> io::Resul
 pub(crate) fn run_monday(rt: &HostRuntime) -> io::Result<()> {
     let rows = rows();
     let mut hash = AnswerTable { rows: &rows };
-    let gate = garble_gate(&mut hash, Parity::Odd, 8, 0, DELTA, FIRST, SECOND, TWEAK);
+    let gate = garble_gate(&mut hash, Parity::Odd, 8, 0, DELTA, LABELS, TWEAK);
     let label = gate.label;
     let ciphertexts = gate.sent.ciphertexts;
     let word = control_word(gate.sent.controls);
