@@ -1,12 +1,7 @@
 -- Sums of two bits, with one of them added again.
 use Rattle.std.proofs.Common.{◌≡◌, Bool, true, false, refl, ap, ◌∙◌}
 use Rattle.label.specs.Sums.{◌⊻◌}
-
-pub xor_swap : (a b : Bool) → a ⊻ b ≡ b ⊻ a
-xor_swap true true = refl
-xor_swap true false = refl
-xor_swap false true = refl
-xor_swap false false = refl
+use Rattle.gate_laws.proofs.Parities.{swap}
 
 pub xor_self : (b : Bool) → b ⊻ b ≡ false
 xor_self true = refl
@@ -19,11 +14,11 @@ xor_first true false = refl
 xor_first false b = refl
 
 pub xor_first_after : (a b : Bool) → (a ⊻ b) ⊻ a ≡ b
-xor_first_after a b = xor_swap (a ⊻ b) a ∙ xor_first a b
+xor_first_after a b = swap (a ⊻ b) a ∙ xor_first a b
 
 -- The second bit, added again.
 pub xor_second_after : (a b : Bool) → (a ⊻ b) ⊻ b ≡ a
-xor_second_after a b = ap (λ (s : Bool). s ⊻ b) (xor_swap a b) ∙ xor_first_after b a
+xor_second_after a b = ap (λ (s : Bool). s ⊻ b) (swap a b) ∙ xor_first_after b a
 
 -- Equal bits add up to nothing.
 pub xor_same : (a b : Bool) → a ≡ b → a ⊻ b ≡ false

@@ -1,16 +1,11 @@
 -- One wire made: a garbled gate, from the labels read for its pair.
-use Rattle.std.proofs.Common.{◌≡◌, ℕ, Bool, true, false, cond, not, ◌&&◌, List, sym, refl, ap, ◌∙◌}
-use Rattle.std.proofs.lemmas.Bool.{cond-true}
+use Rattle.std.proofs.Common.{◌≡◌, ℕ, Bool, true, false, cond, not, ◌&&◌, List, refl}
 use Rattle.label.specs.Labels.{Label}
 use Rattle.label.specs.Hashes.{HashFunction}
-use Rattle.wires.specs.Wires.{Wiring, first_at, second_at, truth_at, class_at, is_input, is_free, is_garbled}
+use Rattle.wires.specs.Wires.{Wiring, class_at, is_input, is_free}
 use Rattle.gate.specs.declared.garble.GarbledGate.{GarbledGate}
-use Rattle.gate.specs.Classes.{parity_of}
-use Rattle.gate.specs.Gates.{garbled_gate, gate_questions}
-use Rattle.garbling.specs.Tweaks.{gate_tweak}
-use Rattle.garbling.specs.Tape.{offset_in, dice_in}
-use Rattle.garbling.specs.Garbling.{label_in, gate_index, false_from}
-use Rattle.garbling.specs.Steps.{made_gate, made_label, made_from, made_asks}
+use Rattle.garbling.specs.Garbling.{gate_index, false_from}
+use Rattle.garbling.specs.Steps.{made_gate, made_label, made_from}
 
 label_by_cases : (i z : Bool) (g : GarbledGate) (x s : Label)
     → (cond (not i && not z) (made_gate g) (made_label (cond i x s))).label ≡ cond i x (cond z s g.label)

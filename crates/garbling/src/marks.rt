@@ -15,6 +15,7 @@ use label::{Hash, Label};
 pub type Mark = (u64, u64);
 
 // The first of the two tweaks of an output, in a circuit of this many wires.
+// A struct of the two numbers would be made for each call and taken apart at once.
 fn mark_tweak(wires: u16, wire: u16) -> u32
     ensures { result ≡ mark_tweak wires wire }
 {

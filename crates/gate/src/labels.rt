@@ -10,7 +10,7 @@ use label::{Label, Xor, colour};
 // The colours of a gate's two labels.
 pub type Colours = (bool, bool);
 
-// The labels of the two wires that a gate reads.
+// The labels of the two wires that a gate reads. The offset is the circuit's, and goes beside them.
 #[derive(Clone, Copy)]
 pub struct LabelPair {
     pub first: Label,

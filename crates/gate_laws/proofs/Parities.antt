@@ -10,7 +10,7 @@ use Rattle.gate.specs.declared.views.Parity.TheVariants.{Even, Odd, Hidden}
 use Rattle.gate.specs.Views.{parity_of, by_colours, truth_at}
 use Rattle.gate_laws.specs.Computes.{suits, class_of, AllowedSuits}
 
-swap : (a b : Bool) → a ⊻ b ≡ b ⊻ a
+pub swap : (a b : Bool) → a ⊻ b ≡ b ⊻ a
 swap true true = refl
 swap true false = refl
 swap false true = refl
