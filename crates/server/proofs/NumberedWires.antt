@@ -10,7 +10,7 @@ use Rattle.circuit.specs.Check.{Fault, or_else}
 use Rattle.server.specs.Lowest.{lowest_where}
 
 -- No more wires are picked than there are.
-few : (p : ℕ → Bool) (n : ℕ) → length (wires_where p n) ≤ n
+pub few : (p : ℕ → Bool) (n : ℕ) → length (wires_where p n) ≤ n
 unfolding wires_where
 few p zero = omega arith
 few p (suc w) =

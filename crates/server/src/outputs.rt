@@ -97,13 +97,9 @@ fn write_outputs(form: &Form, words: &[u64], outputs: &mut [u8])
     requires { length outputs.old ≡ length (output_wires (wiring_of form.now.circuit)) }
     ensures { outputs.new ≡ kept_bytes (wiring_of form.now.circuit) form.now.bytes.now words.now }
 {
-    // Counted and written by hand: of what `iter_mut` writes, a proof knows no element.
-    let mut next: u16 = 0;
-    for wire in 0..form.circuit.wires {
-        if form.circuit.is_output(wire) {
-            outputs[usize::from(next)] = output_byte(form, words, wire, next);
-            next += 1;
-        }
+    let wires = (0..form.circuit.wires).filter(|wire| form.circuit.is_output(*wire));
+    for (next, wire) in wires.enumerate() {
+        outputs[next] = output_byte(form, words, wire, next as u16);
     }
 }
 

@@ -1,11 +1,13 @@
 -- Steps of the loops that go over the wires in rising order and pick some of them.
-use Rattle.std.proofs.Common.{◌≡◌, ℕ, zero, suc, ◌+◌, ◌-◌, ◌<◌, ◌≤◌, Bool, true, false, cond, List, [], ◌∷◌, ◌++◌, Option, Some, None, map, length, take, set, sym, refl, ap, ◌∙◌, subst, add-zero, add-one, arith, length-append, append_assoc}
+use Rattle.std.proofs.Common.{◌≡◌, ℕ, zero, suc, ◌+◌, ◌-◌, ◌<◌, ◌≤◌, Bool, true, false, cond, List, [], ◌∷◌, ◌++◌, Option, Some, None, map, length, get_or, take, set, sym, refl, ap, ◌∙◌, subst, add-zero, add-one, arith, length-append, append_assoc, inl, inr}
 use Rattle.std.specs.List.{filter, range_with_len, enumerate_from}
 use Rattle.std.specs.Iterator.{AlwaysYields}
+use Rattle.std.proofs.lemmas.Bool.{cases_lt}
 use Rattle.std.proofs.lemmas.Simd.{map-map}
 use Rattle.std.proofs.lemmas.Iterator.{YieldsList}
 use Rattle.std.proofs.lemmas.List.FromFn.{filter_of_map_range_with_len_more}
-use Rattle.std.proofs.lemmas.List.{append-nil, length-map, map-id, length_push, map_push, take_all, take_more_set}
+use Rattle.std.proofs.Math.Seq.{take-append-add, take-append_seam}
+use Rattle.std.proofs.lemmas.List.{append-nil, get_or-append-add, length-map, map-id, length_push, map_push, take_all, take_more_set}
 use Rattle.wires.specs.Wires.{wires_where}
 
 length-one_or_none : (b : Bool) (w : ℕ) → length (cond b (w ∷ []) []) ≡ cond b 1 0
@@ -137,3 +139,43 @@ pub written_end : {X : Type 0} (f : ℕ → X) (os : List X) (all : List ℕ) (c
 written_end f os all came so_far ended whole =
     let long : length os ≡ length came = whole ∙ sym (ap length ended) ∙ length-map came (λ (p : ℕ × ℕ). p.1) in
     sym (take_all (length came) os (omega (arith, long))) ∙ so_far ∙ sym (map-map f (λ (p : ℕ × ℕ). p.1) came) ∙ ap (map f) ended
+
+none_below : (p : ℕ → Bool) → length (wires_where p zero) ≡ 0
+unfolding wires_where
+none_below p = refl
+
+-- Those picked below a wire that is picked are those that stand before it.
+pub where_before : (p : ℕ → Bool) (n w : ℕ) (done rest : List ℕ) → done ++ (w ∷ rest) ≡ wires_where p n → length (wires_where p w) ≡ length done
+where_before p zero w done rest whole = absurd (omega (arith, ap length whole, length-append done (w ∷ rest), none_below p))
+where_before p (suc m) w done rest whole = by_last (where_before p m w done) (p m) refl
+  where
+    by_last : ((others : List ℕ) → done ++ (w ∷ others) ≡ wires_where p m → length (wires_where p w) ≡ length done) → (b : Bool) → p m ≡ b → length (wires_where p w) ≡ length done
+    by_last below false passed = below rest (whole ∙ rw add-one at (where_left p m passed))
+    by_last below true picked =
+        let ws : List ℕ = wires_where p m in
+        let ended : done ++ (w ∷ rest) ≡ ws ++ (m ∷ []) = whole ∙ rw add-one at (where_taken p m picked) in
+        let long : length done + suc (length rest) ≡ length ws + 1 = sym (length-append done (w ∷ rest)) ∙ ap length ended ∙ length_push ws m in
+        elim (cases_lt (length done) (length ws)) [
+          | inl less ↦
+              let k = length ws - length done - 1 in
+              let room : length ws ≡ length done + suc k = omega arith in
+              let front : done ++ (w ∷ take k rest) ≡ ws =
+                  sym (take-append-add done (w ∷ rest) (suc k)) ∙ ap (λ i. take i (done ++ (w ∷ rest))) (sym room) ∙ ap (take (length ws)) ended ∙ take-append_seam ws (m ∷ []) in
+              below (take k rest) front
+          | inr more ↦
+              let even : length done ≡ length ws = omega (arith, long) in
+              let same : w ≡ m =
+                  sym (get_or-append-add done (w ∷ rest) 0 0) ∙ ap (λ i. get_or (done ++ (w ∷ rest)) (i + 0) 0) even
+                  ∙ ap (λ l. get_or l (length ws + 0) 0) ended ∙ get_or-append-add ws (m ∷ []) 0 0 in
+              ap (λ v. length (wires_where p v)) same ∙ sym even
+        ]
+
+-- The next one's number is that of those picked below it.
+pub ahead_number : {S : Type 0} {steps : S → Option (ℕ × ℕ) → S → Type 0} {s t : S} (p : ℕ → Bool) (n : ℕ) (came : List (ℕ × ℕ)) (k w : ℕ)
+    → Ahead steps s (wires_where p n) came → steps s (Some (k, w)) t → k ≡ length (wires_where p w)
+ahead_number p n came k w ([], yields, whole) step = absurd (yields.runs (k, w) _ step)
+ahead_number p n came k w (x ∷ rest, yields, whole) step =
+    let h = yields.runs.1 (k, w) _ step in
+    let done = map (λ (q : ℕ × ℕ). q.1) came in
+    let same : w ≡ x = ap (λ (q : ℕ × ℕ). q.1) h.0 in
+    ap (λ (q : ℕ × ℕ). q.0) h.0 ∙ sym (length-map came (λ (q : ℕ × ℕ). q.1)) ∙ sym (where_before p n w done rest (ap (λ y. done ++ (y ∷ rest)) same ∙ whole))
