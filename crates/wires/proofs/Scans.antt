@@ -53,32 +53,6 @@ pub where_left : (p : ℕ → Bool) (w : ℕ) → p w ≡ false → wires_where 
 unfolding wires_where
 where_left p w passed = rw (add-one, passed, append-nil)
 
--- A loop has written f of each wire picked so far, one after the other.
-abbrev pub Picked : {X : Type 0} → (ℕ → Bool) → (ℕ → X) → ℕ → ℕ → List X → Type 0
-Picked p f w next os = (next ≡ length (wires_where p w)) × (take next os ≡ map f (wires_where p w))
-
-pub picked_taken : {X : Type 0} (p : ℕ → Bool) (f : ℕ → X) (w next next' : ℕ) (os os' : List X) (x : X)
-    → Picked p f w next os → next < length os → p w ≡ true → x ≡ f w → next' ≡ next + 1 → os' ≡ set os next x
-    → Picked p f (w + 1) next' os'
-picked_taken p f w next next' os os' x (count, written) room picked is more set = (
-  more ∙ ap (λ n. n + 1) count ∙ sym (length_push _ w) ∙ ap length (sym (where_taken p w picked)),
-  (λ i. take (more i) (set i)) ∙ take_more_set os next x room ∙ (λ i. written i ++ (is i ∷ []))
-      ∙ sym (map_push f (wires_where p w) w) ∙ ap (map f) (sym (where_taken p w picked)),
-)
-
-pub picked_left : {X : Type 0} (p : ℕ → Bool) (f : ℕ → X) (w next next' : ℕ) (os os' : List X)
-    → Picked p f w next os → p w ≡ false → next' ≡ next → os' ≡ os → Picked p f (w + 1) next' os'
-picked_left p f w next next' os os' (count, written) passed same same-os = (
-  same ∙ count ∙ ap length (sym (where_left p w passed)),
-  (λ i. take (same i) (same-os i)) ∙ written ∙ ap (map f) (sym (where_left p w passed)),
-)
-
-pub picked_done : {X : Type 0} (p : ℕ → Bool) (f : ℕ → X) (w n next : ℕ) (os : List X)
-    → Picked p f w next os → w ≡ n → length os ≡ length (wires_where p n) → os ≡ map f (wires_where p n)
-picked_done p f w n next os (count, written) end whole =
-    let all : next ≡ length os = count ∙ ap (λ k. length (wires_where p k)) end ∙ sym whole in
-    sym (take_all next os (omega (arith, all))) ∙ written ∙ ap (λ k. map f (wires_where p k)) end
-
 -- A chain that picks among all wires below n picks those that the test picks.
 pub where_filtered : (p : ℕ → Bool) (n : ℕ) → filter p (range_with_len 0 n) ≡ wires_where p n
 unfolding wires_where
@@ -160,13 +134,13 @@ where_before p (suc m) w done rest whole = by_last (where_before p m w done) (p 
               let k = length ws - length done - 1 in
               let room : length ws ≡ length done + suc k = omega arith in
               let front : done ++ (w ∷ take k rest) ≡ ws =
-                  sym (take-append-add done (w ∷ rest) (suc k)) ∙ ap (λ i. take i (done ++ (w ∷ rest))) (sym room) ∙ ap (take (length ws)) ended ∙ take-append_seam ws (m ∷ []) in
+              sym (take-append-add done (w ∷ rest) (suc k)) ∙ ap (λ i. take i (done ++ (w ∷ rest))) (sym room) ∙ ap (take (length ws)) ended ∙ take-append_seam ws (m ∷ []) in
               below (take k rest) front
           | inr more ↦
               let even : length done ≡ length ws = omega (arith, long) in
               let same : w ≡ m =
-                  sym (get_or-append-add done (w ∷ rest) 0 0) ∙ ap (λ i. get_or (done ++ (w ∷ rest)) (i + 0) 0) even
-                  ∙ ap (λ l. get_or l (length ws + 0) 0) ended ∙ get_or-append-add ws (m ∷ []) 0 0 in
+              sym (get_or-append-add done (w ∷ rest) 0 0) ∙ ap (λ i. get_or (done ++ (w ∷ rest)) (i + 0) 0) even
+              ∙ ap (λ l. get_or l (length ws + 0) 0) ended ∙ get_or-append-add ws (m ∷ []) 0 0 in
               ap (λ v. length (wires_where p v)) same ∙ sym even
         ]
 
