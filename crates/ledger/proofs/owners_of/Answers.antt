@@ -8,4 +8,4 @@ pub returns : goal.returns
 unfolding owners_of
 returns c =
     made_by _ _ (owner_of (wiring_of c.args.circuit.now)) 512 0 (λ i y q below called. search rules) (λ i y q below called. search rules)
-        c.from_fn.result c.from_fn.ensures.items
+    c.from_fn.result c.from_fn.ensures.items
