@@ -20,9 +20,8 @@ fn multiples_of(a: u64) -> [u64; 128]
     ensures { result ≡ multiples a }
 {
     let mut entries = [0; 128];
-    // not from_fn: its closure does not know that k is below 128, which the cast needs
-    for k in 0..128usize {
-        entries[k] = times_tweak(a, ((k % 16) << (4 * (k / 16))) as u32);
+    for (k, entry) in entries.iter_mut().enumerate() {
+        *entry = times_tweak(a, ((k % 16) << (4 * (k / 16))) as u32);
     }
     entries
 }

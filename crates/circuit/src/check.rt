@@ -23,6 +23,7 @@ pub const MOST_OUTPUTS: u16 = 256;
 pub const SIDES: u8 = 2;
 
 // Which truth tables a gate may carry: those of its class, or none where they are kept from the reader.
+// An enum of two and no closure: of a closure each caller would have to state what it answers.
 #[derive(Clone, Copy)]
 pub enum TruthRule {
     ByClass,
@@ -55,7 +56,7 @@ fn split_sizes(bytes: &[u8]) -> Result<Circuit<'_>, Refusal>
 }
 
 // The number of outputs lies within the limits.
-fn check_outputs(outputs: u16) -> Result<(), Refusal>
+pub fn check_outputs(outputs: u16) -> Result<(), Refusal>
     ensures { Finds result (outputs_fault outputs) }
 {
     if outputs < 1 || outputs > MOST_OUTPUTS {

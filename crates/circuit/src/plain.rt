@@ -40,6 +40,7 @@ fn fill_values(circuit: &Circuit, inputs: &[bool], values: &mut [bool])
     requires { length values.old ≡ circuit.now.wires }
     ensures { values.new ≡ values_of (wiring_of circuit.now) inputs.now }
 {
+    // By index, for each value is found from those below it in the same buffer.
     for wire in 0..circuit.wires {
         let value = value_from(circuit, inputs, values, wire);
         values[usize::from(wire)] = value;

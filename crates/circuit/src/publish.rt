@@ -38,8 +38,8 @@ pub fn public_arrays(circuit: &Circuit, arrays: &mut [u8])
     ensures first { arrays.new ≡ public_first (wiring_of circuit.now) (length arrays.old) }
     ensures whole { length arrays.old ≡ 5 * circuit.now.wires → arrays.new ≡ public_arrays (wiring_of circuit.now) }
 {
-    for at in 0..arrays.len() {
-        arrays[at] = public_byte(circuit, at);
+    for (at, byte) in arrays.iter_mut().enumerate() {
+        *byte = public_byte(circuit, at);
     }
 }
 

@@ -5,7 +5,7 @@ ghost use Rattle.garbling.specs.Tape.{need, coloured, offset_in, input_in, dice_
 
 use gate::shift;
 use label::{Label, label_at};
-use slices::{item_or, word_at};
+use slices::item_or;
 
 // How many bytes an opening draws, for this many inputs and garbled gates.
 pub fn tape_need(inputs: u16, garbled: u16) -> usize
@@ -33,8 +33,7 @@ pub(crate) fn draw_input(drawn: &[u8], wire: u16) -> Label
     ensures { result ≡ input_in drawn.now wire }
 {
     let at = 16 + 17 * u32::from(wire);
-    // Word by word, for `label_at` takes places of 16 bits, and this one may be larger.
-    let label = (word_at(drawn, at), word_at(drawn, at + 8));
+    let label = label_at(drawn, at);
     let permute = item_or(drawn, 32 + 17 * usize::from(wire), 0) % 2 == 1;
     shift(draw_offset(drawn), set_colour(label, false), permute)
 }

@@ -16,6 +16,7 @@ pub struct Answer {
 // A function from label and tweak to an answer. A query gives its value, and never refuses; it may change what the hash
 // keeps inside, and not the function. `asks` says what one query does to the hash, so that code above can say which
 // queries it made, in which order.
+// What calls above say of a hash relates its state before and after, which no invariant of a type can: each says it again.
 pub trait Hash {
     ghost function: { Self → ℕ × ℕ → ℕ → Answer };
 

@@ -3,7 +3,7 @@
 ghost use Rattle.std.specs.Prelude.{◌≡◌};
 ghost use Rattle.label.specs.Labels.{colour_of, label_bytes, label_at};
 
-use slices::word_at;
+use slices::{bytes_at, word_at};
 
 // The left and the right half.
 pub type Label = (u64, u64);
@@ -15,7 +15,7 @@ pub fn colour(label: Label) -> bool
     label.0 % 2 == 1
 }
 
-// The 16 bytes of a label; it is read back from them.
+// The 16 bytes of a label; it is read back from them. A function, for no From can be written on a tuple.
 pub fn to_bytes(label: Label) -> [u8; 16]
     ensures value { result ≡ label_bytes label }
     ensures back { label_at result 0 ≡ label }
@@ -28,9 +28,9 @@ pub fn to_bytes(label: Label) -> [u8; 16]
 }
 
 // The label in the 16 bytes at a place; bytes past the end count as 0.
-pub fn label_at(bytes: &[u8], at: u16) -> Label
+pub fn label_at(bytes: &[u8], at: u32) -> Label
     ensures { result ≡ label_at bytes.now at }
 {
-    let at = u32::from(at);
-    (word_at(bytes, at), word_at(bytes, at + 8))
+    let both: [u8; 16] = bytes_at(bytes, at);
+    (word_at(&both, 0), word_at(&both, 8))
 }

@@ -89,7 +89,7 @@ impl Buffer {
 }
 
 impl Refusal {
-    // The number of the cause.
+    // The number of the cause; written out, since a case that holds a value has no number of its own.
     pub fn number(self) -> u8
         ensures { result ≡ (told self).0 }
     {

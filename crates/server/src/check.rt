@@ -7,7 +7,7 @@ ghost use Rattle.wires.specs.Read.{wiring_of};
 ghost use Rattle.server.specs.Faults.{counts_fault, highs_clear, controls_sound, controls_fault, parts_fault, fault_of};
 
 use crate::read::Form;
-use circuit::{MOST_OUTPUTS, TruthRule, check_sizes, check_wires};
+use circuit::{TruthRule, check_outputs, check_sizes, check_wires};
 use form::{controls_of, form_length};
 use refusal::Refusal;
 use wires::Class;
@@ -38,7 +38,8 @@ impl Form<'_> {
         ensures { Finds result (counts_fault (wiring_of self.now.circuit) self.now.bytes.now) }
     {
         let outputs = self.circuit.count_outputs();
-        if outputs < 1 || outputs > MOST_OUTPUTS || outputs != self.outputs() {
+        check_outputs(outputs)?;
+        if outputs != self.outputs() {
             return Err(Refusal::OutputCount);
         }
         if self.circuit.count_garbled() != self.garbled() {

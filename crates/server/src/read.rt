@@ -10,7 +10,7 @@ ghost use Rattle.server.specs.Gates.{sent_at};
 use form::controls_of;
 use garbling::Mark;
 use gate::SentGate;
-use label::{ControlPair, Xor};
+use label::{ControlPair, Xor, label_at};
 use slices::{short_at, word_at};
 use wires::Circuit;
 
@@ -97,9 +97,7 @@ impl<'a> Form<'a> {
         if output >= self.outputs() {
             return (0, 0);
         }
-        let at = from + 16 * u32::from(output);
-        // Word by word, for `label_at` takes places of 16 bits.
-        (word_at(self.bytes, at), word_at(self.bytes, at + 8))
+        label_at(self.bytes, from + 16 * u32::from(output))
     }
 
     // The false and the true mark of an output, by its number among them.

@@ -5,9 +5,9 @@ ghost use Rattle.refusal.specs.Told.{Finds};
 ghost use Rattle.wires.specs.Read.{wiring_of};
 ghost use Rattle.server.specs.Sheets.{sheets_of, sheet_at, label_read, own_label, mark_sound, marks_sound, sheets_fit, marks_fault, sheets_fault, lengths_fault};
 
-use label::Label;
+use label::{Label, label_at};
 use refusal::{Buffer, Refusal, check_length};
-use slices::{item_or, short_at, word_at};
+use slices::{item_or, short_at};
 use wires::Circuit;
 
 // A sheet for each side, as many as `circuit::SIDES`, and the circuit that says which input is whose.
@@ -94,9 +94,7 @@ fn label_on(sheet: &[u8], inputs: u16, wire: u16) -> Option<Label>
     ensures { result ≡ label_read inputs sheet.now wire }
 {
     let at = 2 + u32::from(inputs) + 16 * u32::from(wire);
-    // Word by word, for `label_at` takes places of 16 bits.
-    let label = (word_at(sheet, at), word_at(sheet, at + 8));
-    (item_or(sheet, 2 + usize::from(wire), 0) == 1).then_some(label)
+    (item_or(sheet, 2 + usize::from(wire), 0) == 1).then_some(label_at(sheet, at))
 }
 
 // Whether a wire's mark is sound on the sheet of a side.

@@ -17,7 +17,7 @@ pub enum Class {
 }
 
 impl Class {
-    // The class of a number, of which the two low bits count.
+    // The class of a number, of which the two low bits count: named, for a From would hide that the others do not.
     fn from_bits(bits: u8) -> Class
         ensures { result ≡ class_of (bits % 4) }
     {
@@ -50,6 +50,7 @@ pub fn look_up(truth_table: u8, u: bool, v: bool) -> bool
 }
 
 // A number of wires, of which the first are inputs, and the arrays: a kind byte for each wire, then a pair of wires for each.
+// The sizes stand beside the bytes since a table may be shorter than they say; every reader answers for that too.
 #[derive(Clone, Copy)]
 pub struct Circuit<'a> {
     pub wires: u16,

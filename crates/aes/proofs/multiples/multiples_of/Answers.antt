@@ -19,20 +19,20 @@ part_is : (k : ℕ) → k < 128 → (k % 16 * 2 ^ (4 * (k / 16))) % 2 ^ 64 ≡ k
 part_is k h = shl_whole (k % 16) 4 (4 * (k / 16)) 64 (omega arith) (omega arith)
 
 pub overflow_cast-k : goal.overflow_cast-k
-overflow_cast-k c = record { fits = rw (part_is c.loop-k.k c.loop-k-test.true) (part_lt c.loop-k.k c.loop-k-test.true) }
+overflow_cast-k c = record { fits = rw (part_is c.loop-k.k (omega arith)) (part_lt c.loop-k.k (omega arith)) }
 
 pub loop-k-preserved : goal.loop-k-preserved
 unfolding multiple
 loop-k-preserved c =
     let k = c.loop-k.k in
     let e : c.times_tweak.result ≡ multiple c.args.a k =
-    c.times_tweak.ensures ∙ ap (times64 c.args.a) (part_is k c.loop-k-test.true) in (
-      (λ i h. ap (λ (v : ℕ). get_or (set c.loop-k.entries k v) i 0) e
-          ∙ fill_by_more (multiple c.args.a) c.loop-k.entries k 0 (omega arith) c.loop-k.invariant.0 i h),
+    c.times_tweak.ensures ∙ ap (times64 c.args.a) (part_is k (omega arith)) in (
+      (λ i h. ap (λ (v : ℕ). get_or (set c.loop-k.entry-items k v) i 0) e
+          ∙ fill_by_more (multiple c.args.a) c.loop-k.entry-items k 0 (omega arith) c.loop-k.invariant.0 i h),
       simp length-set c.loop-k.invariant.1,
     )
 
 pub returns : goal.returns
 unfolding multiples
 returns c =
-    fill_by_all (multiple c.args.a) c.loop-k.entries 128 0 c.loop-k.invariant.1 (λ i h. c.loop-k.invariant.0 i (omega arith))
+    fill_by_all (multiple c.args.a) c.loop-k.entry-items 128 0 c.loop-k.invariant.1 (λ i h. c.loop-k.invariant.0 i (omega arith))

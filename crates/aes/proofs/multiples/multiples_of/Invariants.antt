@@ -4,4 +4,4 @@ use Rattle.aes.specs.Multiples.{multiple}
 use Rattle.aes.proofs.multiples.multiples_of.Given as goal
 
 abbrev pub invariant-loop-k : goal.invariant-loop-k
-invariant-loop-k l = ((i : ℕ) → i < l.k → get_or l.entries i 0 ≡ multiple l.a i) × (length l.entries ≡ 128)
+invariant-loop-k l = ((i : ℕ) → i < l.k → get_or l.entry-items i 0 ≡ multiple l.a i) × (length l.entry-items ≡ 128)
