@@ -47,7 +47,7 @@ fn column_round(s: &mut State)
     quarter_round_at(s, 3, 7, 11, 15);
 }
 
-// A quarter round on each diagonal.
+// A quarter round on each diagonal; listed like the columns, and apart from them, as the RFC has both.
 #[tactic(auto, unfolding(crate::specs::Rounds::diagonal_round))]
 fn diagonal_round(s: &mut State)
     ensures { s.new ≡ diagonal_round s.old }

@@ -150,7 +150,7 @@ impl<'a> Table<'a> {
         Table::scan(bytes)
     }
 
-    // The steps of the check, each in its order.
+    // The steps of the check, each in its order; apart, so that what passes exactly is shown once and not at each return.
     fn scan(bytes: &'a [u8]) -> Result<Table<'a>, Refusal>
         ensures fault { Finds result (table_fault bytes.now) }
         ensures holds { IfOk result (Holds bytes.now) }

@@ -18,7 +18,7 @@ pub fn form_length(wires: u16, garbled: u16, outputs: u16) -> usize
     8 + 5 * usize::from(wires) + 26 * usize::from(garbled) + 32 * usize::from(outputs)
 }
 
-// The number of a control pair.
+// The number of a control pair. A function, as those below: no From can stand here between a number and a type of another crate.
 fn pair_number(pair: ControlPair) -> u16
     ensures value { result ≡ pair_number pair }
     ensures small { result < 4 }

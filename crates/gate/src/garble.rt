@@ -85,7 +85,7 @@ fn control_numbers(gate: Gate, views: [View; 4], answered: [ControlPair; 6]) -> 
     gate_numbers(answered, added)
 }
 
-// The words of six answers.
+// The words of six answers; this and the next are functions to state what their `map` gives.
 fn words_of(answers: [Answer; 6]) -> [u64; 6]
     ensures { six_in halves result ≡ six_words answers }
 {

@@ -153,7 +153,7 @@ impl Ledger {
         decide(&mut self.entries[wire as usize], act, wire)
     }
 
-    // How many entries wait.
+    // How many entries wait. A chain here and one below: what differs is a pattern, which is no parameter.
     pub fn count_waiting(&self) -> u16
         ensures { result ≡ waiting_in self.now }
     {

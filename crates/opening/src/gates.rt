@@ -70,6 +70,7 @@ pub(crate) fn garble_wires<H: Hash>(
     ensures kept { H.function hash.new ≡ H.function hash.old }
     ensures asked { Asked H.asks (garble_asks (wiring_of table.now.circuit) drawn.now (H.function hash.old)) hash.old hash.new }
 {
+    // each step asks for the words' length again: a type over lent words would be made and taken apart at each
     // an iterator gives no plainer count: every wire is made, and the garbled ones alone are counted
     let mut next = 0;
     for wire in 0..table.circuit().wires {

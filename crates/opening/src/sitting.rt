@@ -124,7 +124,7 @@ fn side_of(side: u32) -> Result<u8, Refusal>
     }
 }
 
-// The steps of an opening, each in its order; the work words are left as they come.
+// The steps of an opening, each in its order; apart, so that the work words are wiped once and not at each return.
 fn open_lent<H: Hash>(
     side: u32,
     table: &[u8],

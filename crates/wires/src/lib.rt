@@ -116,7 +116,7 @@ impl Circuit<'_> {
         (short_at(self.arrays, at), short_at(self.arrays, at + 2))
     }
 
-    // The number of outputs.
+    // The number of outputs. A chain here and one below: shared, the test would be a parameter with clauses of its own.
     pub fn count_outputs(&self) -> u16
         ensures { result ≡ length (output_wires (wiring_of self.now)) }
     {
