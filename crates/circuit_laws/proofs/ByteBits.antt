@@ -1,20 +1,13 @@
 -- A byte of the tape with its low bit turned, or with other dice in its four low bits: the other bits stay, and the change can be undone.
-use Rattle.std.proofs.Common.{◌≡◌, ℕ, zero, suc, ◌+◌, ◌*◌, ◌/◌, ◌%◌, ◌<◌, ◌≤◌, Bool, true, false, eqb, sym, refl, ap, ◌∙◌, ap₂, arith}
+use Rattle.std.proofs.Common.{◌≡◌, ℕ, zero, suc, ◌+◌, ◌*◌, ◌/◌, ◌%◌, ◌<◌, ◌≤◌, Bool, eqb, sym, refl, ap, ◌∙◌, ap₂, arith}
 use Rattle.label.specs.Sums.{◌⊻◌}
 use Rattle.wires.specs.Wires.{bit, number}
+use Rattle.wires.proofs.Bits.{number_small, number_back}
 use Rattle.gate.specs.declared.views.Dice.{Dice}
 use Rattle.gate.specs.Views.{dice_of}
 use Rattle.circuit_laws.proofs.BitSums.{xor_second_after}
 
--- The number of a bit, and the bit of a number below 2.
-number_small : (b : Bool) → number b ≤ 1
-number_small true = omega arith
-number_small false = omega arith
-
-bit_number : (b : Bool) → eqb (number b) 1 ≡ b
-bit_number true = refl
-bit_number false = refl
-
+-- The bit of a number below 2.
 number_bit : (n : ℕ) → n < 2 → number (eqb n 1) ≡ n
 number_bit zero less = refl
 number_bit (suc zero) less = refl
@@ -28,7 +21,7 @@ abbrev pub turned_bit : Bool → ℕ → ℕ
 turned_bit s b = b / 2 * 2 + number (bit b 0 ⊻ s)
 
 bit_of : (n : ℕ) (b : Bool) → n ≡ number b → eqb n 1 ≡ b
-bit_of n b e = ap (λ (k : ℕ). eqb k 1) e ∙ bit_number b
+bit_of n b e = ap (λ (k : ℕ). eqb k 1) e ∙ number_back b
 
 pub turned_low : (s : Bool) (b : ℕ) → bit (turned_bit s b) 0 ≡ bit b 0 ⊻ s
 turned_low s b =

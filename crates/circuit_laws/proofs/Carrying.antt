@@ -11,7 +11,7 @@ use Rattle.gate.specs.Views.{dice_of}
 use Rattle.gate_laws.specs.GateBlind.{Throw}
 use Rattle.garbling.specs.Tape.{offset_in, dice_in, need_of, drawn_for}
 use Rattle.garbling.specs.Garbling.{gate_index}
-use Rattle.gate_laws.proofs.Parities.{swap}
+use Rattle.label.proofs.Groups.{bit_comm}
 use Rattle.circuit_laws.proofs.Picked.{get_or-where, where_at}
 use Rattle.circuit_laws.proofs.Shown.{Shows, is_garbled_lem, garbled_gate_lem}
 use Rattle.circuit_laws.proofs.Throws.{row_at, throw_in, throw_at}
@@ -100,7 +100,7 @@ module _ (c c' d : Wiring) (shows : Shows c d) (shows' : Shows c' d) (x x' : Lis
 
   pub tape_carried_back : tape_carried c' c d x' x place tape' rows' ≡ tape
   tape_carried_back =
-      tape_back d.inputs (length (garbled_wires d)) S D place tape enough _ _ (λ w input. swap (get_or x w false) (get_or x' w false)) (λ k less.
+      tape_back d.inputs (length (garbled_wires d)) S D place tape enough _ _ (λ w input. bit_comm (get_or x w false) (get_or x' w false)) (λ k less.
       let there = where_at (is_garbled d) d.wires k less in
       ap (λ (w : ℕ). (throws_carried c' c d x' x T' rows' w).dice) there.1
       ∙ ap (λ (z : Throw ℕ). z.dice) (throws_back there.0 there.2 there.3)

@@ -18,7 +18,8 @@ use Rattle.gate.specs.Classes.{parity_of}
 use Rattle.garbling.specs.Tape.{offset_in, dice_in}
 use Rattle.garbling.specs.Tweaks.{gate_tweak}
 use Rattle.garbling.specs.Garbling.{gate_index}
-use Rattle.circuit_laws.proofs.BitSums.{xor_self, xor_second_after}
+use Rattle.label.proofs.Groups.{bit_self}
+use Rattle.circuit_laws.proofs.BitSums.{xor_second_after}
 use Rattle.circuit_laws.proofs.Wired.{gate_of, active}
 use Rattle.circuit_laws.proofs.LabelsMet.{offset_coloured}
 
@@ -40,7 +41,7 @@ throw_at d T rows w =
 
 module _ (Δ : Label) (one : colour_of Δ ≡ true) where
   no_colour : (A : Label) → colour_of (colourless Δ A) ≡ false
-  no_colour A = colour_of_shifted Δ A one (colour_of A) ∙ xor_self (colour_of A)
+  no_colour A = colour_of_shifted Δ A one (colour_of A) ∙ bit_self (colour_of A)
 
   other_colour : (A : Label) → colour_of A ≡ false → colour_of (shifted halves Δ A true) ≡ true
   other_colour A none = colour_of_shifted Δ A one true ∙ ap (λ (b : Bool). b ⊻ true) none

@@ -18,7 +18,8 @@ use Rattle.form.specs.Controls.{control_word, controls_in}
 use Rattle.form.specs.Layout.{size_bytes, ciphertext_bytes, control_bytes, gate_bytes, mark_bytes, form_of, form_length}
 use Rattle.form.specs.Read.{form_wiring, gates_stated, outputs_stated, control_word_at, gate_at, gates_in, marks_from, false_marks_in, true_marks_in, ciphertexts_from, controls_from, false_marks_from, true_marks_from}
 use Rattle.form.specs.Back.{GateFits, MarkFits, FormFits, ReadsBack}
-use Rattle.form.proofs.ControlWords.{at_most_one, controls_back}
+use Rattle.wires.proofs.Bits.{number_small}
+use Rattle.form.proofs.ControlWords.{controls_back}
 use Rattle.slices.proofs.Widths.{length-joined}
 use Rattle.form.proofs.Standing.{Stands, stands_whole, stands_first, stands_rest, stands_item, short_stands, word_stands, label_stands}
 
@@ -67,8 +68,8 @@ three_items (a ∷ b ∷ c ∷ d ∷ xs) long = absurd (omega arith)
 pub word_small : (ks : List ControlPair) → control_word ks < 1024
 word_small ks =
     let none : ControlPair = record { low = false; high = false } in
-    let low : (e : ℕ) → _ = λ e. at_most_one (get_or ks e none).low in
-    let high : (e : ℕ) → _ = λ e. at_most_one (get_or ks e none).high in
+    let low : (e : ℕ) → _ = λ e. number_small (get_or ks e none).low in
+    let high : (e : ℕ) → _ = λ e. number_small (get_or ks e none).high in
     omega (arith, low 0, low 1, low 2, low 3, low 4, high 0, high 1, high 2, high 3, high 4)
 
 module _ (c : Wiring) (gs : List SentGate) (falses trues : List Mark) (h : FormFits c gs falses trues) where

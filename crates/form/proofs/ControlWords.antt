@@ -1,40 +1,33 @@
 -- The five control pairs are read back from their control word.
-use Rattle.std.proofs.Common.{◌≡◌, ℕ, ◌+◌, ◌*◌, ◌/◌, ◌%◌, ◌^◌, ◌<◌, ◌≤◌, Bool, true, false, eqb, List, [], ◌∷◌, length, refl, ap, ◌∙◌, arith}
+use Rattle.std.proofs.Common.{◌≡◌, ℕ, ◌+◌, ◌*◌, ◌/◌, ◌%◌, ◌^◌, ◌<◌, ◌≤◌, Bool, eqb, List, [], ◌∷◌, length, ap, ◌∙◌, arith}
 use lib.Arith.{digits_div}
 use Rattle.label.specs.declared.xor.ControlPair.{ControlPair}
 use Rattle.wires.specs.Wires.{bit, number}
+use Rattle.wires.proofs.Bits.{number_small, number_back}
 use Rattle.form.specs.Controls.{control_word, controls_in}
-
-pub at_most_one : (b : Bool) → number b ≤ 1
-at_most_one true = omega arith
-at_most_one false = omega arith
-
-test_number : (b : Bool) → eqb (number b) 1 ≡ b
-test_number true = refl
-test_number false = refl
 
 -- Bit k of a number whose digits below, at and above it are given.
 bit_back : (k x low rest : ℕ) (b : Bool) → low < 2 ^ k → x ≡ (number b + 2 * rest) * 2 ^ k + low → bit x k ≡ b
 bit_back k x low rest b below digits =
     let high : x / 2 ^ k ≡ number b + 2 * rest = ap (λ y. y / 2 ^ k) digits ∙ digits_div (number b + 2 * rest) below in
-    let small : number b ≤ 1 = at_most_one b in
+    let small : number b ≤ 1 = number_small b in
     let last : x / 2 ^ k % 2 ≡ number b = ap (λ y. y % 2) high ∙ omega (arith, small) in
-    ap (λ y. eqb y 1) last ∙ test_number b
+    ap (λ y. eqb y 1) last ∙ number_back b
 
 -- The five pairs of their control word.
 five_back : (a b c d e : ControlPair) → controls_in (control_word (a ∷ b ∷ c ∷ d ∷ e ∷ [])) ≡ a ∷ b ∷ c ∷ d ∷ e ∷ []
 five_back a b c d e =
     let x : ℕ = control_word (a ∷ b ∷ c ∷ d ∷ e ∷ []) in
-    let al : number a.low ≤ 1 = at_most_one a.low in
-    let ah : number a.high ≤ 1 = at_most_one a.high in
-    let bl : number b.low ≤ 1 = at_most_one b.low in
-    let bh : number b.high ≤ 1 = at_most_one b.high in
-    let cl : number c.low ≤ 1 = at_most_one c.low in
-    let ch : number c.high ≤ 1 = at_most_one c.high in
-    let dl : number d.low ≤ 1 = at_most_one d.low in
-    let dh : number d.high ≤ 1 = at_most_one d.high in
-    let el : number e.low ≤ 1 = at_most_one e.low in
-    let eh : number e.high ≤ 1 = at_most_one e.high in
+    let al : number a.low ≤ 1 = number_small a.low in
+    let ah : number a.high ≤ 1 = number_small a.high in
+    let bl : number b.low ≤ 1 = number_small b.low in
+    let bh : number b.high ≤ 1 = number_small b.high in
+    let cl : number c.low ≤ 1 = number_small c.low in
+    let ch : number c.high ≤ 1 = number_small c.high in
+    let dl : number d.low ≤ 1 = number_small d.low in
+    let dh : number d.high ≤ 1 = number_small d.high in
+    let el : number e.low ≤ 1 = number_small e.low in
+    let eh : number e.high ≤ 1 = number_small e.high in
     λ i.
     record {
       low = bit_back 0 x (0) (number a.high + 2 * number b.low + 4 * number b.high + 8 * number c.low + 16 * number c.high + 32 * number d.low + 64 * number d.high + 128 * number e.low + 256 * number e.high) a.low (omega arith) (omega arith) i;

@@ -3,6 +3,7 @@ use Rattle.std.proofs.Common.{◌≡◌, ℕ, zero, suc, ◌<◌, Bool, true, fa
 use native.Mathlib.Decide.{ℕ_discrete}
 use lib.Count.{ones, ones_in}
 use Rattle.label.specs.Sums.{◌⊻◌}
+use Rattle.label.proofs.Groups.{bit_comm}
 use Rattle.label.proofs.Every.{and_l, and_r, implies, then}
 use Rattle.wires.specs.Wires.{allowed, truth}
 use Rattle.gate.specs.declared.views.Parity.{Parity}
@@ -10,23 +11,17 @@ use Rattle.gate.specs.declared.views.Parity.TheVariants.{Even, Odd, Hidden}
 use Rattle.gate.specs.Views.{parity_of, by_colours, truth_at}
 use Rattle.gate_laws.specs.Computes.{suits, class_of, AllowedSuits}
 
-pub swap : (a b : Bool) → a ⊻ b ≡ b ⊻ a
-swap true true = refl
-swap true false = refl
-swap false true = refl
-swap false false = refl
-
 -- In a sum of two sums the inner ones may be swapped, each in itself.
 swap_inner : (p q r s : Bool) → (p ⊻ q) ⊻ (r ⊻ s) ≡ (q ⊻ p) ⊻ (s ⊻ r)
-swap_inner p q r s = ap₂ (λ (x y : Bool). x ⊻ y) (swap p q) (swap r s)
+swap_inner p q r s = ap₂ (λ (x y : Bool). x ⊻ y) (bit_comm p q) (bit_comm r s)
 
 -- The parity is the same whatever the colours of the false labels.
 pub parity_by_colours : (g : ℕ) (a b : Bool) → parity_of (by_colours g a b) ≡ parity_of (by_colours g false false)
 parity_by_colours g false false = refl
 parity_by_colours g false true = swap_inner (truth g false true) (truth g false false) (truth g true true) (truth g true false)
-parity_by_colours g true false = swap (truth g true false ⊻ truth g true true) (truth g false false ⊻ truth g false true)
+parity_by_colours g true false = bit_comm (truth g true false ⊻ truth g true true) (truth g false false ⊻ truth g false true)
 parity_by_colours g true true =
-    swap (truth g true true ⊻ truth g true false) (truth g false true ⊻ truth g false false)
+    bit_comm (truth g true true ⊻ truth g true false) (truth g false true ⊻ truth g false false)
     ∙ swap_inner (truth g false true) (truth g false false) (truth g true true) (truth g true false)
 
 -- At the colours that the input bits have, the truth by colours is the table's.

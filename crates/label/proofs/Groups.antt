@@ -23,13 +23,13 @@ bit_assoc true true c = not_not c
 bit_assoc true false c = refl
 bit_assoc false b c = refl
 
-bit_comm : (a b : Bool) → a ⊻ b ≡ b ⊻ a
+pub bit_comm : (a b : Bool) → a ⊻ b ≡ b ⊻ a
 bit_comm true true = refl
 bit_comm true false = refl
 bit_comm false true = refl
 bit_comm false false = refl
 
-bit_self : (a : Bool) → a ⊻ a ≡ false
+pub bit_self : (a : Bool) → a ⊻ a ≡ false
 bit_self true = refl
 bit_self false = refl
 

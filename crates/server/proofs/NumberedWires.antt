@@ -5,6 +5,7 @@ use Rattle.std.specs.Option.{option_map}
 use Rattle.std.proofs.lemmas.List.{append-nil}
 use Rattle.std.proofs.lemmas.Iterator.Adapters.{option_map_id}
 use Rattle.wires.specs.Wires.{wires_where}
+use Rattle.wires.proofs.Bits.{number_small}
 use Rattle.wires.proofs.Scans.{count_more, where_filtered}
 use Rattle.circuit.specs.Check.{Fault, or_else}
 use Rattle.server.specs.Lowest.{lowest_where}
@@ -15,11 +16,7 @@ unfolding wires_where
 few p zero = omega arith
 few p (suc w) =
     let step = ap (λ k. length (wires_where p k)) (sym (add-one w)) ∙ count_more p w in
-    omega (arith, step, few p w, one (p w))
-  where
-    one : (b : Bool) → cond b 1 0 ≤ 1
-    one true = omega arith
-    one false = omega arith
+    omega (arith, step, few p w, number_small (p w))
 
 -- One wire more gets the next number.
 numbered_more : (xs : List ℕ) (w a m : ℕ) → length xs < m

@@ -9,6 +9,7 @@ use Rattle.std.proofs.lemmas.List.FromFn.{filter_of_map_range_with_len_more}
 use Rattle.std.proofs.Math.Seq.{take-append-add, take-append_seam}
 use Rattle.std.proofs.lemmas.List.{append-nil, get_or-append-add, length-map, map-id, length_push, map_push, take_all, take_more_set}
 use Rattle.wires.specs.Wires.{wires_where}
+use Rattle.wires.proofs.Bits.{number_small}
 
 length-one_or_none : (b : Bool) (w : ℕ) → length (cond b (w ∷ []) []) ≡ cond b 1 0
 length-one_or_none true w = refl
@@ -23,11 +24,7 @@ count_more p w = rw (add-one, length-append) (ap (λ n. length (wires_where p w)
 pub count_step : (p : ℕ → Bool) (w n k : ℕ) → (n ≡ length (wires_where p w)) × (n ≤ w) → k ≡ n + cond (p w) 1 0
     → (k ≡ length (wires_where p (w + 1))) × (k ≤ w + 1)
 count_step p w n k (counted, below) step =
-    (step ∙ ap (λ i. i + cond (p w) 1 0) counted ∙ sym (count_more p w), omega (arith, step, at_most_one (p w)))
-  where
-    at_most_one : (b : Bool) → cond b 1 0 ≤ 1
-    at_most_one true = omega arith
-    at_most_one false = omega arith
+    (step ∙ ap (λ i. i + cond (p w) 1 0) counted ∙ sym (count_more p w), omega (arith, step, number_small (p w)))
 
 count_grows : (p : ℕ → Bool) (w k : ℕ) → length (wires_where p w) ≤ length (wires_where p (w + k))
 count_grows p w zero = rw add-zero (omega arith)

@@ -1,4 +1,4 @@
-use Rattle.wires.specs.Wires.{is_output, output_wires}
+use Rattle.wires.specs.Wires.{output_wires}
 use Rattle.wires.specs.Read.{wiring_of}
 use Rattle.wires.proofs.Scans.{Ahead, Written}
 use Rattle.garbling.specs.Evaluation.{output_index}
