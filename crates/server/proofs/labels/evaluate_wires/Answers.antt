@@ -1,13 +1,9 @@
-use Rattle.std.proofs.Common.{◌≡◌, refl, ap, ◌∙◌, subst, arith, rules}
-use Rattle.std.specs.List.{flat_map}
-use Rattle.label.specs.Hashes.{Asked}
+use Rattle.std.proofs.Common.{refl, ap, ◌∙◌, arith, rules}
 use Rattle.wires.specs.Wires.{wires_where, is_garbled}
 use Rattle.wires.specs.Read.{wiring_of}
 use Rattle.wires.proofs.Scans.{count_step}
 use Rattle.garbling.specs.Words.{kept_at, labels_kept, keeping}
 use Rattle.garbling.specs.Steps.{met_with}
-use Rattle.garbling.specs.Evaluation.{met_below, evaluate_asks_at}
-use Rattle.form.specs.Read.{gates_in}
 use Rattle.server.specs.Gates.{sent_at}
 use Rattle.server.proofs.Evaluated.{met_start, met_step}
 use Rattle.server.proofs.labels.evaluate_wires.Goals as goal
@@ -40,17 +36,3 @@ loop-wire-preserved g c =
           c.args.words.now ws c.evaluate_next.new.words held (omega arith) (c.loop-wire.auto.words ∙ c.requires)
           c.loop-wire.invariant.0.0 (c.loop-wire.invariant.2 xs held) kept c.evaluate_next.ensures.asked,
     )
-
-pub returns : goal.returns
-returns g c =
-    let circuit = wiring_of c.args.form.now.circuit in
-    let gates = gates_in c.args.form.now.bytes.now in
-    let f = g.H.Hash.function c.args.hash.now in
-    let end : c.loop-wire.wire ≡ c.args.form.now.circuit.wires = omega arith in
-    record {
-      labels = λ xs held. subst (λ k. labels_kept c.loop-wire.words k ≡ met_below circuit f gates xs k) end (c.loop-wire.invariant.2 xs held).0;
-      kept = c.loop-wire.invariant.1;
-      asked = λ xs held.
-          subst (λ k. Asked g.H.Hash.asks (flat_map (evaluate_asks_at circuit f gates xs) (wires_where (is_garbled circuit) k)) c.args.hash.now c.loop-wire.hash)
-          end (c.loop-wire.invariant.2 xs held).2;
-    }

@@ -1,7 +1,5 @@
-use Rattle.std.proofs.Common.{◌≡◌, sym, refl, ap, ◌∙◌, subst, arith}
-use Rattle.std.specs.List.{flat_map}
+use Rattle.std.proofs.Common.{sym, refl, ap, ◌∙◌, subst, arith}
 use Rattle.label.specs.Hashes.{Asked}
-use Rattle.wires.specs.Wires.{wires_where, is_output}
 use Rattle.wires.specs.Read.{wiring_of}
 use Rattle.garbling.specs.Garbling.{label_in}
 use Rattle.garbling.specs.Marks.{mark_of, mark_questions}
@@ -39,12 +37,3 @@ loop-wire-preserved g c =
             (sym w.if-is_output.ensures) c.loop-wire.invariant.1 w.words-is w.hash-is,
       )
     ]
-
-pub returns-clause-asked : goal.returns-clause-asked
-returns-clause-asked g c =
-    let circuit = wiring_of c.args.circuit.now in
-    let n = c.args.circuit.now.wires in
-    let ls = labels_kept c.args.words.now n in
-    let end : c.loop-wire.wire ≡ n = omega arith in
-    subst (λ k. Asked g.H.Hash.asks (flat_map (λ w. mark_questions n w (label_in ls w)) (wires_where (is_output circuit) k)) c.args.hash.now c.loop-wire.hash)
-    end c.loop-wire.invariant.1.2
