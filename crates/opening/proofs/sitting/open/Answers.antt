@@ -2,7 +2,7 @@ use Rattle.std.proofs.Common.{ℕ, arith}
 use Rattle.circuit.specs.Check.{table_wiring}
 use Rattle.garbling.specs.Tape.{drawn_for}
 use Rattle.opening.specs.Opening.{zeros}
-use Rattle.opening.proofs.LawsProof.{open_alike, colours_differ, shows_public}
+use Rattle.opening.proofs.LawsProof.{shows_public}
 use Rattle.opening.proofs.sitting.open.Goals as goal
 
 pub returns-clause-shows : goal.returns-clause-shows
@@ -12,9 +12,3 @@ returns-clause-shows g c =
     (drawn_for (table_wiring c.args.table.now) c.args.tape.now.bytes.now c.args.tape.now.place) (g.H.Hash.function c.args.hash.now)
     c.open_lent-opened.new.form (zeros c.args.form.now) c.args.form.now
     (omega (arith, byte 0, byte 1)) (omega (arith, byte 2, byte 3)) c.open_lent-opened.ensures.form
-
-pub returns-clause-alike : goal.returns-clause-alike
-returns-clause-alike g c = open_alike
-
-pub returns-clause-colours : goal.returns-clause-colours
-returns-clause-colours g c = colours_differ
