@@ -55,10 +55,7 @@ impl AesHash {
         let (word, control) = ciphertext.xor(doubled);
         Answer {
             word,
-            pair: ControlPair {
-                low: control % 2 == 1,
-                high: control / 2 % 2 == 1,
-            },
+            pair: ControlPair::in_bits(control),
         }
     }
 }

@@ -40,6 +40,7 @@ impl Multiples {
         ensures { result ≡ times64 self.now.factor tweak }
     {
         let mut sum = 0;
+        // by index, for the tweak picks the place
         for j in 0..8 {
             let part = (tweak as usize >> (4 * j)) % 16;
             sum ^= self.entries[16 * j + part];

@@ -64,6 +64,7 @@ pub(crate) fn expanded(key: &[u8]) -> [u32; 44]
     for i in 0..4 {
         w[i] = column_at(key, i);
     }
+    // by index, for each word is found from those before it
     for i in 4..44 {
         w[i] = word_at(i, w[i - 1], w[i - 4]);
     }

@@ -61,10 +61,7 @@ fn read_state(state: State) -> Answer
     let [low, high, control, ..] = state;
     Answer {
         word: u64::from(low) + (u64::from(high) << 32),
-        pair: ControlPair {
-            low: control % 2 == 1,
-            high: control / 2 % 2 == 1,
-        },
+        pair: ControlPair::in_bits(u64::from(control)),
     }
 }
 

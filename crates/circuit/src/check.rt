@@ -1,6 +1,6 @@
 // The check of a circuit table: from any bytes to a checked table, or the first fault.
 
-ghost use Rattle.std.specs.Prelude.{◌≡◌, ◌<◌, ◌≤◌, length, is_ok, IfOk, Decides, MatchResult};
+ghost use Rattle.std.specs.Prelude.{◌≡◌, ◌<◌, ◌≤◌, length, is_ok, IfOk, Decides, MatchResult, ◌+◌, ◌*◌};
 ghost use Rattle.refusal.specs.Told.{Finds, told};
 ghost use Rattle.wires.specs.Wires.{garbled_wires, output_wires};
 ghost use Rattle.circuit.specs.Check.{sizes_fault, outputs_fault, input_fault, gate_fault, wire_fault, lowest_fault, table_fault, table_wiring};
@@ -53,6 +53,13 @@ fn split_sizes(bytes: &[u8]) -> Result<Circuit<'_>, Refusal>
         inputs: u16::from_le_bytes([*m0, *m1]),
         arrays,
     })
+}
+
+// How many bytes a table of so many wires has.
+pub(crate) fn table_length(wires: u16) -> usize
+    ensures { result ≡ 4 + 5 * wires }
+{
+    4 + 5 * usize::from(wires)
 }
 
 // The number of outputs lies within the limits.
@@ -157,7 +164,7 @@ impl<'a> Table<'a> {
     {
         let circuit = split_sizes(bytes)?;
         check_sizes(circuit.wires, circuit.inputs)?;
-        if bytes.len() != 4 + 5 * usize::from(circuit.wires) {
+        if bytes.len() != table_length(circuit.wires) {
             return Err(Refusal::Length);
         }
         check_wires(&circuit, TruthRule::ByClass)?;

@@ -6,6 +6,7 @@ ghost use Rattle.wires.specs.Read.{wiring_of};
 ghost use Rattle.circuit.specs.Check.{table_wiring};
 ghost use Rattle.circuit.specs.Public.{public_kind, public_byte, public_first, public_arrays, public_table, public_fault, PublicOf};
 
+use crate::check::table_length;
 use refusal::Refusal;
 use slices::item_or;
 use wires::Circuit;
@@ -49,7 +50,7 @@ pub fn public_table(circuit: &Circuit, table: &mut [u8]) -> Result<(), Refusal>
     ensures table { table.new ≡ (if is_ok result then public_table (wiring_of circuit.now) else table.old) }
     ensures shows { is_ok result ≡ true → PublicOf (wiring_of circuit.now) (table_wiring table.new) }
 {
-    if table.len() != 4 + 5 * usize::from(circuit.wires) {
+    if table.len() != table_length(circuit.wires) {
         return Err(Refusal::Length);
     }
     let [n0, n1] = circuit.wires.to_le_bytes();

@@ -1,3 +1,4 @@
+-- The lemmas behind a whole circuit's laws, in the order in which they build on each other.
 pub mod Built
 pub mod Picked
 pub mod BitSums

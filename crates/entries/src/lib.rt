@@ -17,7 +17,7 @@ ghost use Rattle.entries.specs.Sample.{SampleKept};
 
 use gate::shift;
 use label::{Label, to_bytes};
-use ledger::{Act, ENTRIES, Ledger};
+use ledger::{Act, ENTRIES, Ledger, sheet_length, store_length};
 use opening::OpenSitting;
 use refusal::{Buffer, Refusal, check_length};
 
@@ -125,8 +125,7 @@ fn check_wire(ledger: &Ledger, wire: u32) -> Result<(), Refusal>
 fn check_store(ledger: &Ledger, words: usize) -> Result<(), Refusal>
     ensures { Finds result (store_fault ledger.now words) }
 {
-    let wanted = 2 + 2 * usize::from(ledger.inputs());
-    check_length(words, wanted, Buffer::Store)
+    check_length(words, store_length(ledger.inputs()), Buffer::Store)
 }
 
 // The label of a wire for a bit is taken out of the store: its two words are zero after.
@@ -166,7 +165,7 @@ pub fn release(
 {
     let inputs = ledger.inputs();
     check_store(ledger, store.len())?;
-    check_length(sheet.len(), 2 + 17 * usize::from(inputs), Buffer::Sheet)?;
+    check_length(sheet.len(), sheet_length(inputs), Buffer::Sheet)?;
     check_wire(ledger, wire)?;
     let bit = ledger.move_entry(wire, Act::Release)?;
     let label = take_label(store, wire, bit);

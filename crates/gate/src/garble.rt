@@ -49,7 +49,7 @@ fn coded(parity: Parity, view: View) -> (ControlPair, ControlPair)
     (parity.trim(left), parity.trim(right))
 }
 
-// The five numbers of the halves: false label and ciphertexts.
+// The five numbers of the halves: false label and ciphertexts. One by one, as the control numbers below.
 fn half_numbers(
     gate: Gate,
     views: [View; 4],

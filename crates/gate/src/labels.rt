@@ -10,7 +10,8 @@ use label::{Label, Xor, colour};
 // The colours of a gate's two labels.
 pub type Colours = (bool, bool);
 
-// The labels of the two wires that a gate reads. The offset is the circuit's, and goes beside them.
+// The labels of the two wires that a gate reads. The offset goes beside them: it is the circuit's, and in the pair
+// it would be set for labels that no offset is added to.
 #[derive(Clone, Copy)]
 pub struct LabelPair {
     pub first: Label,

@@ -16,7 +16,8 @@ pub struct Answer {
 // A function from label and tweak to an answer. A query gives its value, and never refuses; it may change what the hash
 // keeps inside, and not the function. `asks` says what one query does to the hash, so that code above can say which
 // queries it made, in which order.
-// What calls above say of a hash relates its state before and after, which no invariant of a type can: each says it again.
+// What calls above say of a hash, that its function stays and what it was asked, relates two moments, so that each says it again;
+// by a law here each caller would have to derive it along its questions, which is no plainer.
 pub trait Hash {
     ghost function: { Self → ℕ × ℕ → ℕ → Answer };
 

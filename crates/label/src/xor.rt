@@ -1,6 +1,6 @@
 // Sums in which everything is its own inverse: one interface for halves of labels, control pairs and whole labels.
 
-ghost use Rattle.std.specs.Prelude.{cond, false, ◌≡◌};
+ghost use Rattle.std.specs.Prelude.{cond, false, ◌≡◌, ◌/◌, ◌%◌, ◌==◌};
 ghost use Rattle.std.specs.Int.Bits.{bit_xor, xor_assoc, xor_self};
 ghost use Rattle.std.proofs.lemmas.Nat.{xor_comm};
 ghost use Rattle.label.specs.Sums.{pair_plus, label_plus};
@@ -62,6 +62,18 @@ impl Xor for u64 {
 pub struct ControlPair {
     pub low: bool,
     pub high: bool,
+}
+
+impl ControlPair {
+    // The pair in the two low bits of a number: named, for a From would hide that the others do not count.
+    pub fn in_bits(bits: u64) -> ControlPair
+        ensures { result ≡ record { low = bits % 2 == 1; high = bits / 2 % 2 == 1 } }
+    {
+        ControlPair {
+            low: bits % 2 == 1,
+            high: bits / 2 % 2 == 1,
+        }
+    }
 }
 
 impl Xor for ControlPair {

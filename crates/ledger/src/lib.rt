@@ -5,6 +5,8 @@ ghost use Rattle.std.specs.Prelude.{◌≡◌, ◌<◌, is_ok, IfOk, if◌then�
 ghost use Rattle.refusal.specs.Told.{Finds};
 ghost use Rattle.wires.specs.Read.{wiring_of};
 ghost use Rattle.ledger.specs.Entries.{act_fault, act_after, act_bit};
+ghost use Rattle.ledger.specs.Store.{store_length};
+ghost use Rattle.ledger.specs.Sheet.{sheet_length};
 ghost use Rattle.ledger.specs.Ledger.{empty_ledger, opened_ledger, owner_of, owners_of, owner_at, entry_at, move_fault, moved, waiting_in, released_in};
 
 use refusal::Refusal;
@@ -14,6 +16,20 @@ use wires::Circuit;
 
 // The number of entries: one for each input wire that a circuit may have.
 pub const ENTRIES: usize = 512;
+
+// How many words the store of a sitting has, for this many inputs.
+pub fn store_length(inputs: u16) -> usize
+    ensures { result ≡ store_length inputs }
+{
+    2 + 2 * usize::from(inputs)
+}
+
+// How many bytes a sheet has, for this many inputs.
+pub fn sheet_length(inputs: u16) -> usize
+    ensures { result ≡ sheet_length inputs }
+{
+    2 + 17 * usize::from(inputs)
+}
 
 // How far an input has come: no bit, a bit that may still change, or its label released.
 #[derive(Clone, Copy)]
@@ -153,7 +169,7 @@ impl Ledger {
         decide(&mut self.entries[wire as usize], act, wire)
     }
 
-    // How many entries wait. A chain here and one below: what differs is a pattern, which is no parameter.
+    // How many entries wait. A chain here and one below: shared, the test would be a parameter with clauses of its own.
     pub fn count_waiting(&self) -> u16
         ensures { result ≡ waiting_in self.now }
     {

@@ -8,6 +8,7 @@ ghost use Rattle.opening.specs.Ready.{Ready, Early};
 
 use circuit::Table;
 use form::form_length;
+use ledger::{sheet_length, store_length};
 use refusal::{Buffer, Refusal, check_length};
 
 // The lengths of the lent buffers.
@@ -24,12 +25,11 @@ fn check_room(table: &Table, room: Room) -> Result<(), Refusal>
     ensures { Finds result (room_fault_for table.now.circuit.wires table.now.circuit.inputs table.now.garbled table.now.outputs room) }
 {
     let circuit = table.circuit();
-    let inputs = usize::from(circuit.inputs);
     let form = form_length(circuit.wires, table.garbled(), table.outputs());
     let work = 2 * usize::from(circuit.wires);
     check_length(room.form, form, Buffer::Form)?;
-    check_length(room.store, 2 + 2 * inputs, Buffer::Store)?;
-    check_length(room.sheet, 2 + 17 * inputs, Buffer::Sheet)?;
+    check_length(room.store, store_length(circuit.inputs), Buffer::Store)?;
+    check_length(room.sheet, sheet_length(circuit.inputs), Buffer::Sheet)?;
     check_length(room.work, work, Buffer::Work)
 }
 

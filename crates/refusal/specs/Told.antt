@@ -1,5 +1,5 @@
 -- What each refusal tells: its number and its place. Every contract that refuses is pinned through this definition.
-use Rattle.std.specs.Prelude.{◌≡◌, ℕ, cond, Some, None, Ok, Err, Option, Result, ◌==◌}
+use Rattle.std.specs.Prelude.{◌≡◌, ℕ, List, codes, cond, Some, None, Ok, Err, Option, Result, ◌==◌}
 use Rattle.refusal.specs.declared.Buffer.{Buffer}
 use Rattle.refusal.specs.declared.Buffer.TheVariants.{Form, Store, Sheet, Work, Outputs, Key, OtherSheet}
 use Rattle.refusal.specs.declared.Refusal.{Refusal}
@@ -53,3 +53,33 @@ Finds (Err e) fault = fault ≡ Some (told e)
 -- A buffer or key of another length than the one wanted.
 abbrev pub length_fault : ℕ → Buffer → ℕ → Option (ℕ × ℕ)
 length_fault wanted buffer len = cond (len == wanted) None (Some (10, place_of buffer))
+
+-- The words of each cause.
+abbrev pub words_of : Refusal → List ℕ
+words_of SizesCutShort = codes "fewer bytes than the sizes take"
+words_of WireCount = codes "the number of wires is not 1 to 1536"
+words_of InputCount = codes "the number of inputs is not 1 to 512, or exceeds the wires"
+words_of Length = codes "the length does not follow from the number of wires"
+words_of (Kind w) = codes "a kind with bits that its wire cannot have"
+words_of (Pair w) = codes "a pair on an input, or one that does not lie below its gate"
+words_of (TruthTable w) = codes "a truth table that the gate's class does not allow"
+words_of OutputCount = codes "the number of outputs is not 1 to 256"
+words_of GateCount = codes "the number of garbled gates is not the one stated"
+words_of (WrongLength b) = codes "a buffer or a key of another length than the one wanted"
+words_of NoSuchSide = codes "no such side"
+words_of (NoSuchInput w) = codes "no such input wire"
+words_of (NoBit w) = codes "a bit that is neither 0 nor 1"
+words_of (ControlBits w) = codes "control bits that must be zero"
+words_of SheetInputs = codes "a sheet for another number of inputs"
+words_of (SheetMark w) = codes "a mark that its wire cannot have on this sheet"
+words_of (NeitherMark w) = codes "an output label that meets neither of its marks"
+words_of (ScriptLine w) = codes "a line of no known shape"
+words_of ScriptLength = codes "a script of too many bytes"
+words_of TapeShort = codes "less tape is left than the opening needs"
+words_of (OtherSide w) = codes "a wire of another side"
+words_of (AlreadyReleased w) = codes "a wire whose label is released"
+words_of (AlreadyWaiting w) = codes "a wire that has an entry waiting"
+words_of (NoEntry w) = codes "a wire with no entry"
+words_of (EqualMarks w) = codes "an output whose two marks are equal"
+words_of (LabelMissing w) = codes "an input wire whose label has not come"
+words_of ScriptOrder = codes "a command before what it needs, or once too often"

@@ -1,8 +1,8 @@
 // The refusals: one case for each cause for which a call may say no, with its number and place.
 #![tactic(auto)]
 
-ghost use Rattle.std.specs.Prelude.{◌≡◌};
-ghost use Rattle.refusal.specs.Told.{Finds, told, place_of, length_fault};
+ghost use Rattle.std.specs.Prelude.{◌≡◌, Some};
+ghost use Rattle.refusal.specs.Told.{Finds, told, place_of, length_fault, words_of};
 
 use std::fmt;
 
@@ -161,6 +161,8 @@ impl Refusal {
 
 // The refusal in words.
 impl fmt::Display for Refusal {
+    ghost output = { λ refusal. Some (words_of refusal) };
+
     fn fmt<W: fmt::Write>(&self, f: &mut fmt::Formatter<W>) -> fmt::Result {
         f.write_str(match self {
             Refusal::SizesCutShort => "fewer bytes than the sizes take",

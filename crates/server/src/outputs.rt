@@ -93,7 +93,7 @@ fn output_byte(form: &Form, words: &[u64], wire: u16, output: u16) -> u8
 }
 
 // The bytes of all outputs, in rising wire order.
-// The outputs' length is asked for here and below: they are lent, as the words are.
+// The outputs' length is asked for here and below; a type over lent outputs would be made and taken apart at each step.
 fn write_outputs(form: &Form, words: &[u64], outputs: &mut [u8])
     requires { length outputs.old ≡ length (output_wires (wiring_of form.now.circuit)) }
     ensures { outputs.new ≡ kept_bytes (wiring_of form.now.circuit) form.now.bytes.now words.now }

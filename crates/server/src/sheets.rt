@@ -6,6 +6,7 @@ ghost use Rattle.wires.specs.Read.{wiring_of};
 ghost use Rattle.server.specs.Sheets.{sheets_of, sheet_at, label_read, own_label, mark_sound, marks_sound, sheets_fit, marks_fault, sheets_fault, lengths_fault};
 
 use label::{Label, label_at};
+use ledger::sheet_length;
 use refusal::{Buffer, Refusal, check_length};
 use slices::{item_or, short_at};
 use wires::Circuit;
@@ -80,7 +81,7 @@ impl<'a> Sheets<'a> {
     pub(crate) fn check_lengths(&self, work: usize, outputs: usize) -> Result<(), Refusal>
         ensures { Finds result (lengths_fault (wiring_of self.now.circuit) (sheets_of self.now) work outputs) }
     {
-        let sheet = 2 + 17 * usize::from(self.circuit.inputs);
+        let sheet = sheet_length(self.circuit.inputs);
         check_length(self.of(0).len(), sheet, Buffer::Sheet)?;
         check_length(work, 2 * usize::from(self.circuit.wires), Buffer::Work)?;
         let count = self.circuit.count_outputs();

@@ -47,6 +47,7 @@ fn run_refusal(rt: &HostRuntime) -> io::Result<()> {
 }
 
 fn run_appendix_b(rt: &HostRuntime) -> io::Result<()> {
+    // a refused key is printed, and is no error of the program; so below, and with the other hash
     let Ok(mut hash) = AesHash::new(MATERIAL_B) else {
         return println!(rt; "the key material of appendix B was refused");
     };

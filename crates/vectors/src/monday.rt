@@ -20,10 +20,7 @@ const TWEAK: u32 = 6;
 fn answer(number: u16) -> Answer {
     Answer {
         word: 256 * u64::from(number),
-        pair: ControlPair {
-            low: number % 2 == 1,
-            high: number / 2 % 2 == 1,
-        },
+        pair: ControlPair::in_bits(u64::from(number)),
     }
 }
 

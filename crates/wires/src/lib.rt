@@ -80,7 +80,7 @@ impl Circuit<'_> {
         self.kind(wire) >> 7 == 1
     }
 
-    // The side that an input belongs to.
+    // The side that an input belongs to: a number, for the format has 7 bits for it and every reader answers for all bytes.
     pub fn side(&self, wire: u16) -> u8
         ensures { result ≡ side_at (wiring_of self.now) wire }
     {

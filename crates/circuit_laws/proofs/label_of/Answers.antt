@@ -1,3 +1,4 @@
+-- The theorems that this contract names.
 use Rattle.circuit_laws.proofs.Computing.{circuit_computes}
 use Rattle.circuit_laws.proofs.label_of.Goals as goal
 

@@ -1,3 +1,4 @@
+-- The theorems that this contract names.
 use Rattle.circuit_laws.proofs.Blindness.{circuit_blind}
 use Rattle.circuit_laws.proofs.MondayPlayed.{monday_round}
 use Rattle.circuit_laws.proofs.rows_wanted.Goals as goal

@@ -1,7 +1,6 @@
 -- Each turn puts the next word behind the words that stand.
 use Rattle.std.proofs.Common.{◌≡◌, ℕ, suc, ◌+◌, ◌-◌, ◌<◌, ◌≤◌, List, [], ◌∷◌, ◌++◌, length, get_or, take, set, sym, ap, ◌∙◌, ap₂, arith, length-set, length-take, get_or-take}
 use Rattle.std.proofs.lemmas.List.{take_more_set, take_all}
-use Rattle.std.proofs.lemmas.List.Edits.{fill_by_more}
 use Rattle.std.proofs.lemmas.List.FromFn.{fill_by_all}
 use Rattle.aes.specs.Fips197.{key_word, scheduled, next_word, schedule, key_expansion}
 use Rattle.aes.proofs.schedule.expanded.Goals as goal
@@ -16,14 +15,6 @@ unfolding schedule
 more w key n i v at long stand e =
     take_more_set w i v long
     ∙ ap₂ (λ (l : List ℕ) (x : ℕ). l ++ x ∷ []) stand (e ∙ next_is w i (omega arith) ∙ ap₂ next_word stand at)
-
-pub loop-i-preserved : goal.loop-i-preserved
-loop-i-preserved c =
-    let i = c.loop-i.i in (
-      (λ k h. ap (λ (v : ℕ). get_or (set c.loop-i.w i v) k 0) c.column_at.ensures.word
-          ∙ fill_by_more (key_word c.args.key.now) c.loop-i.w i 0 (omega arith) c.loop-i.invariant.0 k h),
-      simp length-set c.loop-i.invariant.1,
-    )
 
 pub loop-i-2-init : goal.loop-i-2-init
 unfolding schedule

@@ -19,5 +19,5 @@ returns c =
     let code : c.from.result + c.from-2.result * 2 ^ 32 % 2 ^ 64 ≡ w0 + 2 ^ 32 * w1 = omega arith in
     let low : w2 % 256 % 2 ≡ w2 % 2 = omega arith in
     let high : w2 % 256 / 2 % 2 ≡ w2 / 2 % 2 = rw (field_of w2 7 1) (omega arith) in
-    (simp (code, word, low, high))
+    (simp (c.in_bits.ensures, c.from-3.ensures, code, word, low, high))
     ∙ sym (ap (λ l. read_block (serialised l)) (fill_by_all (λ i. get_or s i 0) s 16 0 (omega arith) (λ i h. refl)))

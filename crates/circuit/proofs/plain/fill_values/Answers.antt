@@ -1,7 +1,7 @@
 use Rattle.std.proofs.Common.{refl, arith}
 use Rattle.circuit.specs.Plain.{values_below}
 use Rattle.wires.specs.Read.{wiring_of}
-use Rattle.circuit.proofs.PlainRuns.{values_step, values_done}
+use Rattle.circuit.proofs.PlainRuns.{values_step}
 use Rattle.circuit.proofs.plain.fill_values.Goals as goal
 
 pub loop-wire-init : goal.loop-wire-init
@@ -13,8 +13,3 @@ loop-wire-preserved c =
     simp c.from.ensures
     (values_step (wiring_of c.args.circuit.now) c.args.inputs.now c.loop-wire.values c.loop-wire.wire c.value_from-value.result
     (omega arith) c.loop-wire.invariant c.value_from-value.ensures)
-
-pub returns : goal.returns
-returns c =
-    values_done (wiring_of c.args.circuit.now) c.args.inputs.now c.loop-wire.values c.loop-wire.wire c.loop-wire.invariant
-    (omega arith) (omega arith) (omega arith)

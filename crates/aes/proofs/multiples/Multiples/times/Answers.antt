@@ -1,5 +1,5 @@
 -- Each turn adds the multiple for the next four coefficients.
-use Rattle.std.proofs.Common.{◌≡◌, ℕ, ◌+◌, ◌*◌, ◌/◌, ◌%◌, ◌^◌, ◌<◌, List, get_or, ap, ◌∙◌, ap₂, mod-eq_of_lt, arith}
+use Rattle.std.proofs.Common.{◌≡◌, ℕ, ◌+◌, ◌*◌, ◌/◌, ◌%◌, ◌^◌, ◌<◌, List, get_or, ap, ◌∙◌, ap₂, arith}
 use lib.Bits.{bit_xor, xor_comm}
 use Rattle.std.proofs.lemmas.List.FromFn.{get_or-map-range_with_len}
 use Rattle.aes.specs.Hash.{times64}
@@ -26,11 +26,3 @@ loop-j-preserved c =
     (ap (λ (l : List ℕ). get_or l (16 * c.loop-j.j + part) 0) c.args.self.now.rule
     ∙ entry_is a c.loop-j.j part (omega arith) (omega arith))
     ∙ low_more a c.args.tweak c.loop-j.j c.loop-j.sum (omega arith) c.loop-j.invariant
-
-pub returns : goal.returns
-returns c =
-    let tweak = c.args.tweak in
-    let end : c.loop-j.j ≡ 8 = omega arith in
-    let below : tweak < 2 ^ 32 = omega arith in
-    c.loop-j.invariant
-    ∙ ap (times64 c.args.self.now.factor) (ap (λ (j : ℕ). tweak % 2 ^ (4 * j)) end ∙ mod-eq_of_lt below)
