@@ -32,7 +32,8 @@ pub(crate) fn long_table(
     Ok(bytes)
 }
 
-// Number and place of a refusal; 0, 0 where the call is done: a pair, as the tests state their values.
+// Number and place of a refusal; 0, 0 where the call is done: a pair, as the tests state their values, and in each crate of
+// tests, for these share no code and no other caller wants a pair.
 pub(crate) fn told<T: Drop>(answer: Result<T, Refusal>) -> (u8, u32) {
     answer
         .err()

@@ -59,7 +59,8 @@ fn labels_in_bytes(rt: HostRuntime) {
     assert_eq!(rt; label_at(&bytes, 8), (0x100f0e0d0c0b0a09, 0));
 }
 
-// Number and place of a refusal; 0, 0 where the call is done: a pair, as the tests state their values.
+// Number and place of a refusal; 0, 0 where the call is done: a pair, as the tests state their values, and in each crate of
+// tests, for these share no code and no other caller wants a pair.
 fn told<T: Drop>(answer: Result<T, Refusal>) -> (u8, u32) {
     answer
         .err()

@@ -29,7 +29,8 @@ fn size_bytes(table: &Table) -> [u8; 8]
     [n0, n1, m0, m1, q0, q1, o0, o1]
 }
 
-// The public part of a form: its sizes and arrays.
+// The public part of a form: its sizes and arrays. Where they end is said here and below in `usize`, for ranges; a reader of
+// forms adds in 32 bits, for places.
 fn write_public(form: &mut [u8], table: &Table)
     requires { 8 + 5 * table.now.circuit.wires ≤ length form.old }
     ensures front { take (8 + 5 * table.now.circuit.wires) form.new ≡ size_bytes table.now.circuit.wires table.now.circuit.inputs table.now.garbled table.now.outputs ++ public_arrays (wiring_of table.now.circuit) }

@@ -54,7 +54,7 @@ fn garble_step<H: Hash>(
     }
 }
 
-// Garbles all wires.
+// Garbles all wires. Hash, table, drawn bytes and work words go side by side: a struct of them would be taken apart in each clause.
 pub(crate) fn garble_wires<H: Hash>(
     hash: &mut H,
     table: &Table,

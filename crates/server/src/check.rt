@@ -49,6 +49,7 @@ impl Form<'_> {
     }
 
     // The lowest gate whose control word has bits that must be zero, with its number among those that are garbled.
+    // A chain here and one for the outputs: shared, its two tests would be parameters with clauses of their own.
     fn wrong_gate(&self) -> Option<(u16, u16)>
         ensures { option_map (λ gate. (14, gate.0)) result ≡ controls_fault (wiring_of self.now.circuit) self.now.bytes.now }
     {
