@@ -1,5 +1,5 @@
 -- Each turn writes the four bytes of one word more.
-use Rattle.std.proofs.Common.{◌+◌, ◌*◌, ◌<◌, ◌≤◌, ◌++◌, length, get_or, take, sym, ap, ◌∙◌, arith, length-set, take_all}
+use Rattle.std.proofs.Common.{◌+◌, ◌*◌, ◌<◌, ◌≤◌, ◌++◌, length, get_or, take, sym, ap, ◌∙◌, arith, length-set}
 use Rattle.std.proofs.lemmas.List.{take_more}
 use Rattle.slices.specs.Little.{bytes_of}
 use Rattle.chacha.specs.Bytes.{serialised}
@@ -20,8 +20,3 @@ loop-i-preserved c =
           ∙ ap serialised (sym (take_more ws i 0 inside))),
       simp length-set (omega arith),
     )
-
-pub returns : goal.returns
-returns c =
-    sym (take_all (4 * c.loop-i.i) c.loop-i.bytes (omega arith)) ∙ c.loop-i.invariant.0
-    ∙ ap serialised (take_all c.loop-i.i c.args.state (omega arith))
