@@ -67,27 +67,49 @@ fn tape_too_short(rt: HostRuntime) {
     assert_eq!(rt; refused(&rt, Fitting::at(0), 0, &TABLE, &[]), (31, 0));
 }
 
-// Side 0 with the sample, on buffers of other lengths.
-fn lent<const FORM: usize, const STORE: usize, const SHEET: usize, const WORK: usize>(
-    rt: &impl Abort,
-    desk: Desk<FORM, STORE, SHEET, WORK>,
-) -> (u8, u32) {
-    refused(rt, desk, 0, &TABLE, &TAPE)
-}
-
 // Each length wrong alone, and two together: the lowest is named.
 #[test]
 fn wrong_lengths(rt: HostRuntime) {
-    assert_eq!(rt; lent(&rt, Desk::<80, 6, 36, 6>::at(0)), (10, 1));
-    assert_eq!(rt; lent(&rt, Desk::<82, 6, 36, 6>::at(0)), (10, 1));
-    assert_eq!(rt; lent(&rt, Desk::<81, 5, 36, 6>::at(0)), (10, 2));
-    assert_eq!(rt; lent(&rt, Desk::<81, 7, 36, 6>::at(0)), (10, 2));
-    assert_eq!(rt; lent(&rt, Desk::<81, 6, 35, 6>::at(0)), (10, 3));
-    assert_eq!(rt; lent(&rt, Desk::<81, 6, 37, 6>::at(0)), (10, 3));
-    assert_eq!(rt; lent(&rt, Desk::<81, 6, 36, 5>::at(0)), (10, 4));
-    assert_eq!(rt; lent(&rt, Desk::<81, 6, 36, 0>::at(0)), (10, 4));
-    assert_eq!(rt; lent(&rt, Desk::<80, 6, 36, 7>::at(0)), (10, 1));
-    assert_eq!(rt; lent(&rt, Desk::<81, 6, 35, 7>::at(0)), (10, 3));
+    assert_eq!(rt;
+        refused(&rt, Desk::<80, 6, 36, 6>::at(0), 0, &TABLE, &TAPE),
+        (10, 1)
+    );
+    assert_eq!(rt;
+        refused(&rt, Desk::<82, 6, 36, 6>::at(0), 0, &TABLE, &TAPE),
+        (10, 1)
+    );
+    assert_eq!(rt;
+        refused(&rt, Desk::<81, 5, 36, 6>::at(0), 0, &TABLE, &TAPE),
+        (10, 2)
+    );
+    assert_eq!(rt;
+        refused(&rt, Desk::<81, 7, 36, 6>::at(0), 0, &TABLE, &TAPE),
+        (10, 2)
+    );
+    assert_eq!(rt;
+        refused(&rt, Desk::<81, 6, 35, 6>::at(0), 0, &TABLE, &TAPE),
+        (10, 3)
+    );
+    assert_eq!(rt;
+        refused(&rt, Desk::<81, 6, 37, 6>::at(0), 0, &TABLE, &TAPE),
+        (10, 3)
+    );
+    assert_eq!(rt;
+        refused(&rt, Desk::<81, 6, 36, 5>::at(0), 0, &TABLE, &TAPE),
+        (10, 4)
+    );
+    assert_eq!(rt;
+        refused(&rt, Desk::<81, 6, 36, 0>::at(0), 0, &TABLE, &TAPE),
+        (10, 4)
+    );
+    assert_eq!(rt;
+        refused(&rt, Desk::<80, 6, 36, 7>::at(0), 0, &TABLE, &TAPE),
+        (10, 1)
+    );
+    assert_eq!(rt;
+        refused(&rt, Desk::<81, 6, 35, 7>::at(0), 0, &TABLE, &TAPE),
+        (10, 3)
+    );
 }
 
 // A side that is none is named before a bad table, a bad table before a short tape.
