@@ -1,11 +1,15 @@
--- Words in bytes: the four bytes at a place, and the bytes of words that were read.
+-- Words in bytes: the four bytes at a place, and the bytes of words that were read; and the words of two states added.
 use Rattle.std.proofs.Common.{◌≡◌, ℕ, zero, suc, ◌+◌, ◌*◌, ◌<◌, ◌≤◌, List, [], ◌∷◌, ◌++◌, map, length, get_or, take, drop, sym, ap, ◌∙◌, ap₂, add-one, arith, drop-cons, drop-drop, take_all, refl, set, append_assoc, append-nil, length-set, take-suc-set}
 use Rattle.std.proofs.Math.Seq.{take-add}
 use Rattle.std.specs.Int.{from_le_bytes, w32}
 use Rattle.std.specs.List.{range_with_len}
 use Rattle.slices.specs.Little.{little, bytes_of}
 use Rattle.slices.proofs.LittleLaws.{bytes_of-little}
+use Rattle.std.proofs.lemmas.List.{get_or-take, length-take-le}
+use Rattle.std.proofs.lemmas.List.FromFn.{fill_by_all}
+use Rattle.chacha.specs.Words.{plus}
 use Rattle.chacha.specs.Bytes.{four_at, word_at, words_in, serialised}
+use Rattle.chacha.specs.Block.{added}
 
 -- a part that begins with the byte at i
 part_more : (l : List ℕ) (n i j : ℕ) → j ≡ i + 1 → i < length l → take (suc n) (drop i l) ≡ get_or l i 0 ∷ take n (drop j l)
@@ -74,3 +78,26 @@ front_set_four l p n b0 b1 b2 b3 e h =
 pub serialised_push : (ws : List ℕ) (w : ℕ) → serialised (ws ++ w ∷ []) ≡ serialised ws ++ bytes_of 4 w
 serialised_push [] w = append-nil (bytes_of 4 w)
 serialised_push (x ∷ xs) w = ap (λ r. bytes_of 4 x ++ r) (serialised_push xs w) ∙ simp append_assoc
+
+-- two states added are as long as they are
+pub added_length : (xs ys : List ℕ) → length xs ≡ length ys → length (added xs ys) ≡ length xs
+added_length [] ys e = refl
+added_length (x ∷ xs) [] e = absurd (omega arith)
+added_length (x ∷ xs) (y ∷ ys) e = ap suc (added_length xs ys (omega arith))
+
+-- and hold the sums of their words
+added_at : (xs ys : List ℕ) (k : ℕ) → length xs ≡ length ys → k < length xs → get_or (added xs ys) k 0 ≡ plus (get_or xs k 0) (get_or ys k 0)
+added_at [] ys k e below = absurd (omega arith)
+added_at (x ∷ xs) [] k e below = absurd (omega arith)
+added_at (x ∷ xs) (y ∷ ys) zero e below = refl
+added_at (x ∷ xs) (y ∷ ys) (suc k) e below = added_at xs ys k (omega arith) (omega arith)
+
+-- the first n of them are the sums of the first n words
+pub added_front :
+    (xs ys : List ℕ) (n : ℕ) → length xs ≡ length ys → n ≤ length xs
+    → take n (added xs ys) ≡ map (λ i. plus (get_or xs i 0) (get_or ys i 0)) (range_with_len 0 n)
+added_front xs ys n e fits =
+    let long = added_length xs ys e in
+    fill_by_all (λ i. plus (get_or xs i 0) (get_or ys i 0)) (take n (added xs ys)) n 0
+    (length-take-le n (added xs ys) (omega arith))
+    (λ k below. get_or-take n (added xs ys) k 0 below ∙ added_at xs ys k e (omega arith))

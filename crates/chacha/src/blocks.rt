@@ -1,8 +1,8 @@
 // The ChaCha20 block function, RFC 8439, 2.3.
 
-ghost use Rattle.std.specs.Prelude.{◌≡◌, ◌*◌, ◌≤◌, length};
+ghost use Rattle.std.specs.Prelude.{◌≡◌, ◌*◌, ◌≤◌, length, take};
 ghost use Rattle.chacha.specs.Bytes.{words_in, serialised};
-ghost use Rattle.chacha.specs.Block.{state_of, final_state, block_of};
+ghost use Rattle.chacha.specs.Block.{state_of, added, final_state, block_of};
 
 use crate::rounds::{State, twenty_rounds};
 use std::array::from_fn;
@@ -35,12 +35,19 @@ pub(crate) fn state_of(key: [u32; 8], counter: u32, nonce: [u32; 3]) -> State
     ]
 }
 
+// The first words of two states added word by word: all 16 for a block, fewer where fewer are read.
+pub(crate) fn added<const N: usize>(end: &State, start: &State) -> [u32; N]
+    requires { N ≤ 16 }
+    ensures { result ≡ take N (added end.now start.now) }
+{
+    from_fn(|i| end[i].wrapping_add(start[i]))
+}
+
 // The state after the 20 rounds, with the state that they started from added.
-pub(crate) fn final_state(start: State) -> State
+fn final_state(start: State) -> State
     ensures { result ≡ final_state start }
 {
-    let end = twenty_rounds(start);
-    from_fn(|i| end[i].wrapping_add(start[i]))
+    added(&twenty_rounds(start), &start)
 }
 
 // The words as bytes, each little-endian.

@@ -1,14 +1,14 @@
 // A hash of labels: the ChaCha20 block function, keyed by key material and the label together.
 
-ghost use Rattle.std.specs.Prelude.{◌≡◌, ◌/◌, ◌%◌, ◌^◌, length, IfOk};
+ghost use Rattle.std.specs.Prelude.{◌≡◌, ℕ, ◌/◌, ◌%◌, ◌^◌, List, ◌++◌, length, IfOk};
 ghost use Rattle.chacha.specs.Bytes.{serialised};
 ghost use Rattle.chacha.specs.Block.{initial_state};
 ghost use Rattle.chacha.specs.Hash.{label_key, label_nonce, read_block, answer_of, material_of};
 ghost use Rattle.refusal.specs.Told.{Finds, length_fault};
 ghost use Rattle.refusal.specs.declared.Buffer.TheVariants.{Key};
 
-use crate::blocks::{final_state, state_of, words_in};
-use crate::rounds::State;
+use crate::blocks::{added, state_of, words_in};
+use crate::rounds::{State, twenty_rounds};
 use label::{Answer, ControlPair, Hash, Label};
 use refusal::{Buffer, Refusal, check_length};
 
@@ -54,11 +54,11 @@ fn start(words: &[u32; 7], label: Label, tweak: u32) -> State
     )
 }
 
-// What the hash reads from a block's words.
-fn read_state(state: State) -> Answer
-    ensures { result ≡ read_block (serialised state) }
+// What the hash reads from a block, from the first row of its final state: bytes 0 to 8 are in its first three words.
+fn read_row(first: [u32; 4]) -> Answer
+    ensures { (rest : List ℕ) → result ≡ read_block (serialised (first ++ rest)) }
 {
-    let [low, high, control, ..] = state;
+    let [low, high, control, _] = first;
     Answer {
         word: u64::from(low) + (u64::from(high) << 32),
         pair: ControlPair::in_bits(u64::from(control)),
@@ -77,12 +77,13 @@ impl ChaChaHash {
         })
     }
 
-    // The hash of a label under a tweak.
-    #[tactic(auto, unfolding(crate::specs::Block::block_of, crate::specs::Hash::answer_of, crate::specs::Hash::material_of))]
+    // The hash of a label under a tweak: of the block, only the row that is read is added up.
     pub fn answer(&self, label: Label, tweak: u32) -> Answer
         ensures { result ≡ answer_of (material_of self.now) label tweak }
     {
-        read_state(final_state(start(&self.words, label, tweak)))
+        let start = start(&self.words, label, tweak);
+        let end = twenty_rounds(start);
+        read_row(added(&end, &start))
     }
 }
 

@@ -168,7 +168,8 @@ impl<'a> Table<'a> {
             return Err(Refusal::Length);
         }
         check_wires(&circuit, TruthRule::ByClass)?;
-        check_outputs(circuit.count_outputs())?;
-        Ok(Table::counted(circuit))
+        let outputs = circuit.count_outputs();
+        check_outputs(outputs)?;
+        Ok(Table::counted(circuit, outputs))
     }
 }

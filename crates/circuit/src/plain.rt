@@ -69,8 +69,8 @@ pub fn run_plain(
     ensures outputs { outputs.new ≡ (if is_ok result then plain_outputs (wiring_of circuit.now) inputs.now else outputs.old) }
     ensures run { is_ok result ≡ true → PlainRun (wiring_of circuit.now) inputs.now values.new outputs.new }
 {
-    let marked = usize::from(circuit.count_outputs());
     check_length(values.len(), usize::from(circuit.wires), Buffer::Work)?;
+    let marked = usize::from(circuit.count_outputs());
     check_length(outputs.len(), marked, Buffer::Outputs)?;
     fill_values(circuit, inputs, values);
     pick_outputs(circuit, values, outputs);

@@ -18,15 +18,16 @@ pub struct Table<'a> {
 }
 
 impl<'a> Table<'a> {
-    // A circuit with its counts.
-    pub(crate) fn counted(circuit: Circuit<'a>) -> Table<'a>
-        requires { circuit.inputs ≤ circuit.wires }
+    // A circuit with its counts, of which that of the outputs was made before.
+    pub(crate) fn counted(circuit: Circuit<'a>, outputs: u16) -> Table<'a>
+        requires within { circuit.inputs ≤ circuit.wires }
+        requires marks { outputs ≡ length (output_wires (wiring_of circuit)) }
         ensures { result.circuit ≡ circuit.entry }
     {
         Table {
             circuit,
             garbled: circuit.count_garbled(),
-            outputs: circuit.count_outputs(),
+            outputs,
         }
     }
 

@@ -136,7 +136,7 @@ fn take_label(store: &mut [u64], wire: u32, bit: bool) -> Label
 {
     let at = 2 + 2 * wire as usize;
     let label = shift((store[0], store[1]), (store[at], store[at + 1]), bit);
-    store[at..at + 2].fill(0);
+    store[at..at + 2].copy_from_slice(&[0, 0]);
     label
 }
 

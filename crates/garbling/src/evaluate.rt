@@ -10,9 +10,9 @@ ghost use Rattle.garbling.specs.Tweaks.{gate_tweak};
 ghost use Rattle.garbling.specs.Words.{kept_at, labels_kept};
 ghost use Rattle.garbling.specs.Steps.{met_with, met_asks};
 
-use crate::garble::gate_tweak;
+use crate::garble::{gate_tweak, parity_of};
 use crate::words::{kept, labels_below};
-use gate::{LabelPair, Parity, SentGate, evaluate_gate, free_gate};
+use gate::{LabelPair, SentGate, evaluate_gate, free_gate};
 use label::{Hash, Label};
 use wires::Circuit;
 
@@ -28,7 +28,7 @@ fn evaluate_with<H: Hash>(
     ensures kept { H.function hash.new ≡ H.function hash.old }
     ensures asked { Asked H.asks (three_questions labels.first labels.second (gate_tweak wire)) hash.old hash.new }
 {
-    let parity = Parity::from(circuit.class(wire));
+    let parity = parity_of(circuit.class(wire));
     evaluate_gate(hash, parity, sent, labels, gate_tweak(wire))
 }
 

@@ -15,13 +15,25 @@ use crate::tape::{draw_dice, draw_input, draw_offset};
 use crate::words::labels_below;
 use gate::{GarbledGate, LabelPair, Parity, SentGate, free_gate, garble_gate};
 use label::{Hash, Label};
-use wires::Circuit;
+use wires::{Circuit, Class};
 
 // What is made of a wire: its false label, and what is sent of its gate where that is garbled.
 #[derive(Clone, Copy)]
 pub struct MadeWire {
     pub label: Label,
     pub gate: Option<SentGate>,
+}
+
+// The parity by which a class is garbled. For this crate alone, which asks of garbled gates only: by a From, anybody's free gate
+// would be an even one.
+pub(crate) fn parity_of(class: Class) -> Parity
+    ensures { result ≡ parity_of class }
+{
+    match class {
+        Class::Free | Class::Even => Parity::Even,
+        Class::Odd => Parity::Odd,
+        Class::Hidden => Parity::Hidden,
+    }
 }
 
 // The first of a gate's three tweaks.
@@ -44,7 +56,7 @@ fn garble_with<H: Hash>(
     ensures kept { H.function hash.new ≡ H.function hash.old }
     ensures asked { Asked H.asks (gate_questions (offset_in drawn.now) labels.first labels.second (gate_tweak wire)) hash.old hash.new }
 {
-    let parity = Parity::from(circuit.class(wire));
+    let parity = parity_of(circuit.class(wire));
     let truth_table = circuit.truth_table(wire);
     let dice = draw_dice(drawn, circuit.inputs, garbled);
     let delta = draw_offset(drawn);

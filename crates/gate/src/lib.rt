@@ -1,7 +1,6 @@
 // One gate of the garbled circuit: garbled by a school, evaluated by the server.
 #![tactic(auto)]
 
-mod classes;
 mod evaluate;
 mod garble;
 mod labels;

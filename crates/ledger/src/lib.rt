@@ -175,8 +175,8 @@ impl Ledger {
     {
         self.entries
             .iter()
-            .filter(|entry| matches!(entry, Entry::Waiting { .. }))
-            .count() as u16
+            .map(|entry| u16::from(matches!(entry, Entry::Waiting { .. })))
+            .sum()
     }
 
     // How many entries are released.
@@ -185,7 +185,7 @@ impl Ledger {
     {
         self.entries
             .iter()
-            .filter(|entry| matches!(entry, Entry::Released))
-            .count() as u16
+            .map(|entry| u16::from(matches!(entry, Entry::Released)))
+            .sum()
     }
 }

@@ -1,6 +1,15 @@
 // Two rows of items in one buffer, with room for as many items in each: the second row stands after all of the first.
 
-ghost use Rattle.std.specs.Prelude.{◌≡◌, ◌+◌, ◌*◌, ◌<◌, ◌++◌, length, take, drop};
+ghost use Rattle.std.specs.Prelude.{◌≡◌, ◌+◌, ◌*◌, ◌^◌, ◌<◌, ◌++◌, length, take, drop};
+
+// Where the next item of the second row stands: past the whole first row, and past those of its own that came before.
+fn second_place<const A: usize, const B: usize>(count: u16, next: u16) -> usize
+    requires place { next < count }
+    requires room { (A + B) * count < 2 ^ 64 }
+    ensures { result ≡ A * count + B * next }
+{
+    A * usize::from(count) + B * usize::from(next)
+}
 
 // Writes the next item of both rows.
 pub(crate) fn write_item<const A: usize, const B: usize>(
@@ -17,7 +26,7 @@ pub(crate) fn write_item<const A: usize, const B: usize>(
     ensures len { length rows.new ≡ length rows.old }
 {
     let at = A * usize::from(next);
-    let later = A * usize::from(count) + B * usize::from(next);
+    let later = second_place::<A, B>(count, next);
     rows[at..at + A].copy_from_slice(&first);
     rows[later..later + B].copy_from_slice(&second);
 }

@@ -12,7 +12,7 @@ use refusal::Refusal;
 // A form that passed its check.
 #[derive(Clone, Copy)]
 pub struct CheckedForm<'a> {
-    pub(crate) form: Form<'a>,
+    form: Form<'a>,
     ghost passed: { form_fault form.bytes.now ≡ None } by { Prim.hlevel props },
 }
 
@@ -26,5 +26,12 @@ impl<'a> CheckedForm<'a> {
         let form = Form::new(bytes);
         form.check()?;
         Ok(CheckedForm { form })
+    }
+
+    // What passed.
+    pub(crate) fn form(&self) -> Form<'a>
+        ensures { result ≡ self.now.form }
+    {
+        self.form
     }
 }

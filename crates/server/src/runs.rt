@@ -56,7 +56,7 @@ pub fn run<'a, H: Hash>(
     ensures kept { H.function hash.new ≡ H.function hash.old }
     ensures asked { Asked H.asks (run_asks checked.now.form.bytes.now (H.function hash.old) (sheet0.now ∷ sheet1.now ∷ []) (length work.old) (length outputs.old)) hash.old hash.new }
 {
-    let answer = run_steps(&checked.form, hash, sheet0, sheet1, work, outputs);
+    let answer = run_steps(&checked.form(), hash, sheet0, sheet1, work, outputs);
     work.fill(0);
     answer
 }

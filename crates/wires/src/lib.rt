@@ -120,7 +120,9 @@ impl Circuit<'_> {
     pub fn count_outputs(&self) -> u16
         ensures { result ≡ length (output_wires (wiring_of self.now)) }
     {
-        (0..self.wires).filter(|wire| self.is_output(*wire)).count() as u16
+        (0..self.wires)
+            .map(|wire| u16::from(self.is_output(wire)))
+            .sum()
     }
 
     // The number of gates that are garbled.
@@ -128,7 +130,7 @@ impl Circuit<'_> {
         ensures { result ≡ length (garbled_wires (wiring_of self.now)) }
     {
         (0..self.wires)
-            .filter(|wire| self.is_garbled(*wire))
-            .count() as u16
+            .map(|wire| u16::from(self.is_garbled(wire)))
+            .sum()
     }
 }

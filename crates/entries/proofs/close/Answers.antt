@@ -1,3 +1,4 @@
+use Rattle.std.proofs.Common.{arith, rules}
 use Rattle.entries.proofs.Promise.{one_label, counts_lines}
 use Rattle.entries.proofs.SampleBook.{sample_kept}
 use Rattle.entries.proofs.close.Goals as goal
@@ -10,7 +11,7 @@ returns-in_err-map_err-clause-sample c = sample_kept
 
 pub returns-clause-lines : goal.returns-clause-lines
 returns-clause-lines c =
-    counts_lines c.args.ledger.now (record { waiting = c.count_waiting.result; released = c.count_released.result }) (c.count_waiting.ensures, c.count_released.ensures)
+    counts_lines c.args.ledger.now _ (search (rules, arith), search (rules, arith))
 
 pub returns-clause-book : goal.returns-clause-book
 returns-clause-book c = one_label

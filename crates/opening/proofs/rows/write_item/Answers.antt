@@ -24,7 +24,7 @@ returns g c =
     let wide : (k w : ℕ) (zs : List ℕ) → length zs ≡ w → k + w - k ≡ length zs = λ k w zs long. omega (arith, long) in
     let written : _ ≡ both_written bs xs ys (a * n) (a * q) (b * n) apart room =
     λ i. put_mid (a * q + b * n) (wide (a * q + b * n) b ys two i) (put_mid (a * n) (wide (a * n) a xs one i) bs (c.copy_from_slice.ensures.after i)) (c.copy_from_slice-2.ensures.after i) in
-    rw (c.from-at.ensures, c.from.ensures, c.from-2.ensures)
+    rw (c.from-at.ensures, c.second_place-later.ensures)
     record {
       first = (λ i. take (a * n + sym one i) (written i)) ∙ first_written bs xs ys (a * n) (a * q) (b * n) apart room;
       second = (λ i. take (b * n + sym two i) (drop (a * q) (written i))) ∙ second_written bs xs ys (a * n) (a * q) (b * n) apart room;
