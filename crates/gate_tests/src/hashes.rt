@@ -1,9 +1,10 @@
-// The answer table's rows, labels in bytes, and keys of the wrong length.
+// The answer table's rows, one answer written everywhere, labels in bytes, and keys of the wrong length.
 
 use aes::AesHash;
 use chacha::ChaChaHash;
 use label::{Answer, AnswerTable, ControlPair, Hash, Row, label_at, to_bytes};
 use refusal::Refusal;
+use slices::overwrite;
 
 const fn answer(word: u64, low: bool, high: bool) -> Answer {
     Answer {
@@ -75,4 +76,15 @@ fn key_lengths(rt: HostRuntime) {
     assert_eq!(rt; told(ChaChaHash::new(&[0; 27])), (10, 6));
     assert_eq!(rt; told(ChaChaHash::new(&[])), (10, 6));
     assert_eq!(rt; told(ChaChaHash::new(&[0; 28])), (0, 0));
+}
+
+#[test]
+fn one_answer_everywhere(rt: HostRuntime) {
+    let kept = answer(1, false, true);
+    let written = answer(9, true, true);
+    let mut answers = [kept, answer(2, true, false), answer(3, false, false)];
+    overwrite(&mut answers[1..], written);
+    assert_eq!(rt; answers, [kept, written, written]);
+    overwrite(&mut answers[..0], kept);
+    assert_eq!(rt; answers, [kept, written, written]);
 }

@@ -1,4 +1,4 @@
-// Tests of labels, hashes and gates.
+// Tests of labels, hashes and gates, and of one value written everywhere.
 #![tactic(auto)]
 
 #[cfg(test)]

@@ -1,12 +1,12 @@
 -- Steps of the loops that go over the wires in rising order and pick some of them.
 use Rattle.std.proofs.Common.{◌≡◌, ℕ, zero, suc, ◌+◌, ◌-◌, ◌<◌, ◌≤◌, Bool, true, false, cond, List, [], ◌∷◌, ◌++◌, Option, Some, None, map, length, get_or, take, set, sym, refl, ap, ◌∙◌, subst, add-zero, add-one, arith, length-append, append_assoc, inl, inr}
-use Rattle.std.specs.List.{sum, filter, range_with_len, enumerate_from}
+use Rattle.std.specs.List.{count_by, filter, range_with_len, enumerate_from}
 use Rattle.std.specs.Iterator.{AlwaysYields}
 use Rattle.std.proofs.lemmas.Bool.{cases_lt}
 use Rattle.std.proofs.lemmas.Simd.{map-map}
 use Rattle.std.proofs.lemmas.Iterator.{YieldsList}
 use Rattle.std.proofs.lemmas.List.FromFn.{filter_of_map_range_with_len_more}
-use Rattle.std.proofs.lemmas.List.Sums.{sum-map, length-filter}
+use Rattle.std.proofs.lemmas.List.Sums.{length-filter}
 use Rattle.std.proofs.Math.Seq.{take-append-add, take-append_seam}
 use Rattle.std.proofs.lemmas.List.{append-nil, get_or-append-add, length-map, map-id, length_push, map_push, take_all, take_more_set}
 use Rattle.wires.specs.Wires.{wires_where}
@@ -61,17 +61,9 @@ where_filtered p (suc w) =
     sym (ap (filter p) (ids (suc w))) ∙ more ∙ ap (λ xs. filter p xs ++ cond (p w) (w ∷ []) []) (ids w)
     ∙ ap (λ xs. xs ++ cond (p w) (w ∷ []) []) (where_filtered p w)
 
--- No more wires are picked than there are.
-pub where_few : (p : ℕ → Bool) (n : ℕ) → length (wires_where p n) ≤ n
-unfolding wires_where
-where_few p zero = omega arith
-where_few p (suc w) =
-    let more = count_more p w in
-    subst (λ k. length (wires_where p k) ≤ k) (add-one w) (omega (arith, more, number_small (p w), where_few p w))
-
--- A one for each wire that is picked and a nought for each other come to how many are picked.
-pub where_counted : (p : ℕ → Bool) (n : ℕ) → sum (map (λ w. cond (p w) 1 0) (range_with_len 0 n)) ≡ length (wires_where p n)
-where_counted p n = sum-map (λ w. cond (p w) 1 0) (range_with_len 0 n) ∙ sym (length-filter p (range_with_len 0 n)) ∙ ap length (where_filtered p n)
+-- The wires below n that a test picks, counted, are as many as it picks.
+pub where_counted : (p : ℕ → Bool) (n : ℕ) → count_by p (range_with_len 0 n) ≡ length (wires_where p n)
+where_counted p n = sym (length-filter p (range_with_len 0 n)) ∙ ap length (where_filtered p n)
 
 -- A loop over the wires that a test picks, each with its number among them: those that came, and those to come.
 abbrev pub Ahead : {S : Type 0} → (S → Option (ℕ × ℕ) → S → Type 0) → S → List ℕ → List (ℕ × ℕ) → Type 0

@@ -18,5 +18,6 @@ returns c =
     let words = c.args.self.now.words in
     let long : length words ≡ 44 = omega arith in
     c.copied.ensures
-    ∙ got c.get.result words c.args.i (c.get.ensures.lookup.0 ∙ ap (ltb c.args.i) long) c.get.ensures.lookup.1 long
+    ∙ got c.get.result words _ (c.get.ensures.lookup.0 ∙ ap (ltb _) long) c.get.ensures.lookup.1 long
+    ∙ ap (λ (k : ℕ). cond (ltb k 44) (Some (get_or words k 0)) None) (omega arith)
     ∙ ap (λ (l : List ℕ). cond (ltb c.args.i 44) (Some (get_or l c.args.i 0)) None) c.args.self.now.expands
